@@ -3,9 +3,9 @@ use Rattle.std.proofs.Common.{◌≡◌, ℕ, zero, suc, ◌<◌, ◌≤◌, Boo
 use Rattle.std.specs.Prelude.{◌&&◌, OnOk, OnErr}
 use Rattle.std.specs.Option.{is_some}
 use Rattle.std.proofs.lemmas.List.{take-append-le, drop-append-le, length_push}
-use Rattle.journal_protocol.specs.Notification.{Notification}
-use Rattle.journal_protocol.specs.NotificationId.{NotificationId}
-use Rattle.journal_protocol.specs.NotificationResult.{NotificationResult}
+use Rattle.journal_values.specs.declared.notification.Notification.{Notification}
+use Rattle.journal_values.specs.declared.notification.NotificationId.{NotificationId}
+use Rattle.journal_values.specs.declared.notification.NotificationResult.{NotificationResult}
 use Rattle.await_arrivals.specs.declared.log.Entry.{Entry}
 use Rattle.await_arrivals.specs.Came.{Came}
 use Rattle.await_arrivals.specs.Entries.{not_taken, given_by, all_given}

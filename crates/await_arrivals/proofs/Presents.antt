@@ -5,8 +5,8 @@ use Rattle.std.specs.Option.{is_some, option_map}
 use Rattle.std.specs.List.Sorted.{IsNonDecreasing, IsPartitionedBy}
 use Rattle.std.proofs.lemmas.List.{get_or-map, length-map, get_or_past, get_or-take, length-take}
 use Rattle.std.proofs.lemmas.Bool.Decides.{nat_tests}
-use Rattle.journal_protocol.specs.NotificationId.{NotificationId}
-use Rattle.journal_protocol.specs.NotificationResult.{NotificationResult}
+use Rattle.journal_values.specs.declared.notification.NotificationId.{NotificationId}
+use Rattle.journal_values.specs.declared.notification.NotificationResult.{NotificationResult}
 use Rattle.await_arrivals.specs.declared.log.Entry.{Entry}
 use Rattle.await_arrivals.specs.Ids.{same_id}
 use Rattle.await_arrivals.specs.Results.{first, newest, newest_after, results_of}

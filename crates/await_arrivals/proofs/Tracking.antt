@@ -4,9 +4,9 @@ use Rattle.std.proofs.Math.ListN.{set}
 use Rattle.std.proofs.lemmas.List.{get_or-take, get_or-set_same, get_or-set_other, length-set, length_push, get_or_append_left}
 use Rattle.std.proofs.Math.Seq.{get_or-append_seam}
 use Rattle.await_arrivals.specs.declared.index.Index.{Index}
-use Rattle.journal_protocol.specs.Notification.{Notification}
-use Rattle.journal_protocol.specs.NotificationId.{NotificationId}
-use Rattle.journal_protocol.specs.NotificationResult.{NotificationResult}
+use Rattle.journal_values.specs.declared.notification.Notification.{Notification}
+use Rattle.journal_values.specs.declared.notification.NotificationId.{NotificationId}
+use Rattle.journal_values.specs.declared.notification.NotificationResult.{NotificationResult}
 use Rattle.await_arrivals.specs.declared.log.Entry.{Entry}
 use Rattle.await_arrivals.specs.Ids.{same_id, slot_of, held_for_ids}
 use Rattle.await_arrivals.specs.Numbers.{most_for_one}

@@ -1,6 +1,6 @@
 -- What contracts see of the arrivals of an attempt.
 use Rattle.std.specs.Prelude.{ℕ, nat_le, Bool, true, false, List, [], ◌∷◌, ◌++◌, Option, Some, None}
-use Rattle.journal_protocol.specs.Notification.{Notification}
+use Rattle.journal_values.specs.declared.notification.Notification.{Notification}
 
 -- the notifications that came, each list in order of arrival
 pub record Came : Type 0 where

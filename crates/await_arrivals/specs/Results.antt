@@ -1,8 +1,8 @@
 -- The results of an id among notifications.
 use Rattle.std.specs.Prelude.{Bool, false, ◌||◌, cond, List, [], ◌∷◌, Option, Some, None}
-use Rattle.journal_protocol.specs.Notification.{Notification}
-use Rattle.journal_protocol.specs.NotificationId.{NotificationId}
-use Rattle.journal_protocol.specs.NotificationResult.{NotificationResult}
+use Rattle.journal_values.specs.declared.notification.Notification.{Notification}
+use Rattle.journal_values.specs.declared.notification.NotificationId.{NotificationId}
+use Rattle.journal_values.specs.declared.notification.NotificationResult.{NotificationResult}
 use Rattle.await_arrivals.specs.Ids.{same_id}
 
 -- the results of an id, oldest first

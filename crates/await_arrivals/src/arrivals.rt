@@ -5,7 +5,7 @@ ghost use Rattle.await_arrivals.specs.Came.{nothing_came, is_queued, one_used, e
 ghost use Rattle.await_arrivals.specs.Results.{first, newest, results_of, has_result_among, without_oldest, without_all};
 
 use crate::log::Log;
-use journal_protocol::{Notification, NotificationId, NotificationResult};
+use journal_values::{Notification, NotificationId, NotificationResult};
 use std::alloc::{AllocError, Global};
 use std::marker::Model;
 

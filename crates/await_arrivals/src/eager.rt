@@ -5,7 +5,7 @@ ghost use Rattle.std.specs.Option.{option_copied};
 ghost use Rattle.await_arrivals.specs.Results.{first, newest, results_of, has_result_among, without_oldest, without_all};
 
 use crate::log::Log;
-use journal_protocol::{Notification, NotificationId, NotificationResult};
+use journal_values::{Notification, NotificationId, NotificationResult};
 use std::alloc::{AllocError, Global};
 use std::marker::Model;
 
@@ -18,7 +18,7 @@ pub struct EagerResults {
 impl Model for EagerResults {
     ghost use Rattle.std.specs.Prelude.{List};
     ghost use Rattle.await_arrivals.specs.Entries.{not_taken};
-    ghost use Rattle.journal_protocol.specs.Notification.{Notification};
+    ghost use Rattle.journal_values.specs.declared.notification.Notification.{Notification};
 
     ghost Value = { List Notification };
 

@@ -4,7 +4,7 @@ ghost use Rattle.await_arrivals.specs.Ids.{same_id, slot_of, held_for_ids};
 ghost use Rattle.await_arrivals.specs.Numbers.{most_for_one};
 
 use crate::numbers::Numbers;
-use journal_protocol::NotificationId;
+use journal_values::NotificationId;
 use plain::Text;
 use std::alloc::{AllocError, Global};
 use std::collections::BTreeMap;

@@ -7,7 +7,7 @@ ghost use Rattle.await_arrivals.specs.Entries.{not_taken, places, Tracked, with_
 
 use crate::index::Index;
 use crate::places::Places;
-use journal_protocol::{Notification, NotificationId, NotificationResult};
+use journal_values::{Notification, NotificationId, NotificationResult};
 use std::alloc::{AllocError, Global};
 use std::marker::Model;
 

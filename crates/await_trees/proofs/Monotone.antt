@@ -1,6 +1,6 @@
 -- More arrivals: an outcome stays, a tree that is done does not fire, and a tree that fires goes on to.
 use Rattle.std.proofs.Common.{◌≡◌, ℕ, Bool, true, false, ◌||◌, refl}
-use Rattle.journal_protocol.specs.FutureKind.{FutureKind}
+use Rattle.journal_attempt.specs.declared.future.FutureKind.{FutureKind}
 use Rattle.await_trees.specs.declared.outcome.Outcome.{Outcome}
 use Rattle.await_trees.specs.Tree.{Tree, Forest, leaf, node, none, more}
 use Rattle.await_trees.specs.Outcomes.{is_done, fires_on, waits_for, outcome, all_wait, fires, any_fires, awake, Grows}

@@ -1,11 +1,11 @@
 -- A wire future is one whole future, and wakes as the tree that was sent.
 use Rattle.std.proofs.Common.{◌≡◌, ℕ, suc, ◌+◌, Bool, true, false, ◌||◌, List, [], ◌∷◌, ◌++◌, refl, sym, ap, ◌∙◌, arith, append_assoc, append-nil, Option, Some, None}
-use Rattle.journal_protocol.specs.FutureKind.{FutureKind}
-use Rattle.journal_protocol.specs.FutureKind.TheVariants.{FirstCompleted}
-use Rattle.journal_protocol.specs.FutureNode.{FutureNode}
-use Rattle.journal_protocol.specs.NotificationId.{NotificationId}
-use Rattle.journal_protocol.specs.NotificationId.TheVariants.{CompletionId, SignalId, SignalName}
-use Rattle.journal_protocol.specs.Futures.{are_whole}
+use Rattle.journal_attempt.specs.declared.future.FutureKind.{FutureKind}
+use Rattle.journal_attempt.specs.declared.future.FutureKind.TheVariants.{FirstCompleted}
+use Rattle.journal_attempt.specs.declared.future.FutureNode.{FutureNode}
+use Rattle.journal_values.specs.declared.notification.NotificationId.{NotificationId}
+use Rattle.journal_values.specs.declared.notification.NotificationId.TheVariants.{CompletionId, SignalId, SignalName}
+use Rattle.journal_attempt.specs.Futures.{are_whole}
 use Rattle.await_trees.specs.declared.outcome.Outcome.{Outcome}
 use Rattle.await_trees.specs.Outcomes.{is_done, all_wait, any_fires, awake}
 use Rattle.await_trees.specs.Residual.{Added, here, later}

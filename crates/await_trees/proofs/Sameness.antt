@@ -1,6 +1,6 @@
 -- Order and repetition of children change neither an outcome nor whether a tree is awake.
 use Rattle.std.proofs.Common.{◌≡◌, Bool, true, false, ◌||◌, cond, refl, sym, ap}
-use Rattle.journal_protocol.specs.FutureKind.{FutureKind}
+use Rattle.journal_attempt.specs.declared.future.FutureKind.{FutureKind}
 use Rattle.await_trees.specs.declared.outcome.Outcome.{Outcome}
 use Rattle.await_trees.specs.declared.outcome.Outcome.TheVariants.{Pending}
 use Rattle.await_trees.specs.Outcomes.{fires_on, waits_for, outcome_of, outcome, all_wait, fires, any_fires, awake}

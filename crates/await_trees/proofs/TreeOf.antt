@@ -1,7 +1,7 @@
 -- `tree_of` at each form.
 use Rattle.std.proofs.Common.{◌≡◌, List, sym, ◌∙◌, ap}
 use Rattle.await_trees.specs.Tree.{Tree, leaf, node, tree_step, tree_of, forest_of}
-use Rattle.journal_protocol.specs.FutureKind.TheVariants.{FirstCompleted as OfFirst, AllCompleted as OfAll, FirstSucceededOrAllFailed as OfAny, AllSucceededOrFirstFailed as OfEvery, Unknown as Other}
+use Rattle.journal_attempt.specs.declared.future.FutureKind.TheVariants.{FirstCompleted as OfFirst, AllCompleted as OfAll, FirstSucceededOrAllFailed as OfAny, AllSucceededOrFirstFailed as OfEvery, Unknown as Other}
 use Rattle.await_trees.specs.declared.handle.NotificationHandle.{NotificationHandle}
 use Rattle.await_trees.specs.declared.tree.UnresolvedFuture.{UnresolvedFuture}
 use Rattle.await_trees.specs.declared.tree.UnresolvedFuture.TheVariants.{Single, FirstCompleted, AllCompleted, FirstSucceededOrAllFailed, AllSucceededOrFirstFailed, Unknown, rolls-Single, rolls-FirstCompleted, rolls-AllCompleted, rolls-FirstSucceededOrAllFailed, rolls-AllSucceededOrFirstFailed, rolls-Unknown}

@@ -1,6 +1,6 @@
 -- What is left to await of a tree that is not awake.
 use Rattle.std.specs.Prelude.{ℕ, ◌≡◌, true, false}
-use Rattle.journal_protocol.specs.FutureKind.{FutureKind}
+use Rattle.journal_attempt.specs.declared.future.FutureKind.{FutureKind}
 use Rattle.await_trees.specs.declared.outcome.Outcome.{Outcome}
 use Rattle.await_trees.specs.Tree.{TreeOver, ForestOver, Tree, Forest, leaf, node, none, more}
 use Rattle.await_trees.specs.Outcomes.{outcome, is_done}

@@ -1,5 +1,5 @@
 -- Trees that are the same but for the order and the repetition of children.
-use Rattle.journal_protocol.specs.FutureKind.{FutureKind}
+use Rattle.journal_attempt.specs.declared.future.FutureKind.{FutureKind}
 use Rattle.await_trees.specs.Tree.{TreeOver, ForestOver, leaf, node, none, more}
 
 mutual

@@ -1,8 +1,8 @@
 -- A tree of awaits, over leaves of any kind: handles as a handler awaits them, notification ids as
 -- they are sent.
 use Rattle.std.specs.Prelude.{ℕ, List, [], ◌∷◌, map}
-use Rattle.journal_protocol.specs.FutureKind.{FutureKind}
-use Rattle.journal_protocol.specs.FutureKind.TheVariants.{FirstCompleted as OfFirst, AllCompleted as OfAll, FirstSucceededOrAllFailed as OfAny, AllSucceededOrFirstFailed as OfEvery, Unknown as OfUnknown}
+use Rattle.journal_attempt.specs.declared.future.FutureKind.{FutureKind}
+use Rattle.journal_attempt.specs.declared.future.FutureKind.TheVariants.{FirstCompleted as OfFirst, AllCompleted as OfAll, FirstSucceededOrAllFailed as OfAny, AllSucceededOrFirstFailed as OfEvery, Unknown as OfUnknown}
 use Rattle.await_trees.specs.declared.tree.UnresolvedFuture.{UnresolvedFuture}
 use Rattle.await_trees.specs.declared.tree.UnresolvedFuture.TheOpen.{UnresolvedFuture-F, Single, FirstCompleted, AllCompleted, FirstSucceededOrAllFailed, AllSucceededOrFirstFailed, Unknown}
 use Rattle.await_trees.specs.declared.tree.UnresolvedFuture.TheFolds.{fold-UnresolvedFuture}

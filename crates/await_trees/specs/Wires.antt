@@ -1,10 +1,10 @@
 -- A tree as it is sent, and how what is sent reads.
 use Rattle.std.specs.Prelude.{ℕ, zero, suc, List, [], ◌∷◌, ◌++◌, Option, Some, None}
-use Rattle.journal_protocol.specs.FutureKind.{FutureKind}
-use Rattle.journal_protocol.specs.FutureKind.TheVariants.{FirstCompleted, Unknown}
-use Rattle.journal_protocol.specs.FutureNode.{FutureNode}
-use Rattle.journal_protocol.specs.NotificationId.{NotificationId}
-use Rattle.journal_protocol.specs.NotificationId.TheVariants.{CompletionId, SignalId, SignalName}
+use Rattle.journal_attempt.specs.declared.future.FutureKind.{FutureKind}
+use Rattle.journal_attempt.specs.declared.future.FutureKind.TheVariants.{FirstCompleted, Unknown}
+use Rattle.journal_attempt.specs.declared.future.FutureNode.{FutureNode}
+use Rattle.journal_values.specs.declared.notification.NotificationId.{NotificationId}
+use Rattle.journal_values.specs.declared.notification.NotificationId.TheVariants.{CompletionId, SignalId, SignalName}
 use Rattle.await_trees.specs.declared.outcome.Outcome.{Outcome}
 use Rattle.await_trees.specs.declared.outcome.Outcome.TheVariants.{Pending}
 use Rattle.await_trees.specs.Tree.{TreeOver, ForestOver, Tree, Forest, leaf, node, none, more}

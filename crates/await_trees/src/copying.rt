@@ -8,7 +8,7 @@ use crate::handle::NotificationHandle;
 use crate::listing::list_nodes;
 use crate::nodes::{Label, Node};
 use crate::tree::UnresolvedFuture;
-use journal_protocol::FutureKind;
+use journal_attempt::FutureKind;
 use plain::Items;
 use std::alloc::{AllocError, Global};
 

@@ -1,7 +1,7 @@
 //! Laws of trees, as functions that do nothing.
 ghost use Rattle.std.specs.Prelude.{◌≡◌, ℕ, IsTrue, Option};
-ghost use Rattle.journal_protocol.specs.NotificationId.{NotificationId};
-ghost use Rattle.journal_protocol.specs.Futures.{IsFuture};
+ghost use Rattle.journal_values.specs.declared.notification.NotificationId.{NotificationId};
+ghost use Rattle.journal_attempt.specs.Futures.{IsFuture};
 ghost use Rattle.await_trees.specs.declared.outcome.Outcome.{Outcome};
 ghost use Rattle.await_trees.specs.Outcomes.{outcome, awake};
 ghost use Rattle.await_trees.specs.Same.{Same};

@@ -6,7 +6,7 @@ ghost use Rattle.await_trees.specs.Preorder.{preorder, preorders};
 
 use crate::nodes::{Label, Node};
 use crate::tree::UnresolvedFuture;
-use journal_protocol::FutureKind;
+use journal_attempt::FutureKind;
 use plain::Items;
 use std::alloc::{AllocError, Global};
 

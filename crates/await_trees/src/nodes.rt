@@ -1,5 +1,5 @@
 //! A tree as a flat list of nodes in preorder, and their children as ranges of a second list.
-use journal_protocol::FutureKind;
+use journal_attempt::FutureKind;
 
 /// What stands at a node: a handle's number, or a kind over children.
 #[derive(Clone, Copy)]

@@ -2,7 +2,7 @@
 ghost use Rattle.std.specs.Prelude.{◌≡◌};
 ghost use Rattle.await_trees.specs.Outcomes.{outcome_of, is_done, fires_on, waits_for};
 
-use journal_protocol::FutureKind;
+use journal_attempt::FutureKind;
 
 #[derive(Clone, Copy, PartialEq, Eq)]
 pub enum Outcome {

@@ -3,7 +3,7 @@
 use crate::listing::list_nodes;
 use crate::nodes::{Label, Node};
 use crate::tree::UnresolvedFuture;
-use journal_protocol::FutureKind;
+use journal_attempt::FutureKind;
 use std::alloc::Global;
 use std::fmt;
 

@@ -4,11 +4,11 @@ use Rattle.std.specs.Option.{is_some, option_or}
 use Rattle.std.proofs.Math.ListN.{set}
 use Rattle.std.proofs.lemmas.Bool.{cases_eq}
 use Rattle.std.proofs.lemmas.List.{take-append-drop, get_or-set_same, get_or-set_other}
-use Rattle.journal_protocol.specs.FutureKind.{FutureKind}
-use Rattle.journal_protocol.specs.Notification.{Notification}
-use Rattle.journal_protocol.specs.NotificationId.{NotificationId}
-use Rattle.journal_protocol.specs.NotificationResult.{NotificationResult}
-use Rattle.journal_protocol.specs.NotificationResult.TheVariants.{Void, Value, Failure, StateKeys, InvocationId}
+use Rattle.journal_attempt.specs.declared.future.FutureKind.{FutureKind}
+use Rattle.journal_values.specs.declared.notification.Notification.{Notification}
+use Rattle.journal_values.specs.declared.notification.NotificationId.{NotificationId}
+use Rattle.journal_values.specs.declared.notification.NotificationResult.{NotificationResult}
+use Rattle.journal_values.specs.declared.notification.NotificationResult.TheVariants.{Void, Value, Failure, StateKeys, InvocationId}
 use Rattle.await_arrivals.specs.Came.{enough}
 use Rattle.await_arrivals.specs.Ids.{same_id}
 use Rattle.await_arrivals.specs.Results.{results_of, first, newest, newest_after}
@@ -20,7 +20,7 @@ use Rattle.await_trees.specs.declared.outcome.Outcome.{Outcome}
 use Rattle.await_trees.specs.declared.outcome.Outcome.TheVariants.{Pending, Succeeded, Failed}
 use Rattle.await_trees.specs.Outcomes.{any_fires, all_wait, outcome_of, is_done, first_of}
 use Rattle.await_trees.specs.Tree.{Tree, Forest, leaf, none, more}
-use Rattle.journal_protocol.specs.SignalDelivery.{SignalDelivery}
+use Rattle.journal_values.specs.declared.delivery.SignalDelivery.{SignalDelivery}
 use Rattle.vm_parts.specs.Arrived.{Arrived}
 use Rattle.vm_parts.specs.Deliveries.{id_at, is_listed, present_result, present_result_for, has_result_for, ready_after, first_result_for}
 use Rattle.await_tries.specs.Await.{earlier, outcomes}

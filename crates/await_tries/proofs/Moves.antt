@@ -1,6 +1,6 @@
 -- Notifications that are used one by one.
 use Rattle.std.proofs.Common.{◌≡◌, ℕ, zero, suc, ◌+◌, ◌-◌, ◌<◌, true, false, List, [], ◌∷◌, ◌++◌, length, take, drop, refl, sym, ◌∙◌, ap, arith, add-one, append_assoc, append-nil, length-drop}
-use Rattle.journal_protocol.specs.Notification.{Notification}
+use Rattle.journal_values.specs.declared.notification.Notification.{Notification}
 use Rattle.await_arrivals.specs.Came.{Came, is_queued, used_from}
 use Rattle.vm_parts.specs.Arrived.{Arrived}
 use Rattle.vm_parts.specs.Deliveries.{next_used}

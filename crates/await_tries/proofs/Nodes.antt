@@ -3,7 +3,7 @@ use Rattle.std.proofs.Common.{◌≡◌, ◌≢◌, ℕ, zero, suc, ◌+◌, ◌
 use Rattle.std.proofs.Math.ListN.{set}
 use Rattle.std.proofs.lemmas.List.{get_or-set_other}
 use Rattle.std.proofs.lemmas.Bool.{cases_lt}
-use Rattle.journal_protocol.specs.FutureKind.{FutureKind}
+use Rattle.journal_attempt.specs.declared.future.FutureKind.{FutureKind}
 use Rattle.await_trees.specs.declared.nodes.Node.{Node}
 use Rattle.await_trees.specs.declared.nodes.Label.{Label}
 use Rattle.await_trees.specs.declared.nodes.Label.TheVariants.{Leaf, Inner}

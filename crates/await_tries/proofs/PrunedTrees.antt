@@ -1,6 +1,6 @@
 -- The tree that pruned nodes represent is what is left of the tree.
 use Rattle.std.proofs.Common.{◌≡◌, ℕ, ◌<◌, Bool, false, ◌||◌, List, [], ◌∷◌, length, sym, ◌∙◌}
-use Rattle.journal_protocol.specs.FutureKind.{FutureKind}
+use Rattle.journal_attempt.specs.declared.future.FutureKind.{FutureKind}
 use Rattle.await_trees.specs.declared.outcome.Outcome.{Outcome}
 use Rattle.await_trees.specs.declared.nodes.Node.{Node}
 use Rattle.await_trees.specs.Tree.{Tree, Forest, leaf, node, none, more}

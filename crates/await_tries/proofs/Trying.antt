@@ -1,7 +1,7 @@
 -- A try, by the courses of its nodes.
 use Rattle.std.proofs.Common.{◌≡◌, ℕ, ◌||◌, List, length, Option, ◌∙◌, arith}
 use Rattle.await_arrivals.specs.Came.{enough}
-use Rattle.journal_protocol.specs.SignalDelivery.{SignalDelivery}
+use Rattle.journal_values.specs.declared.delivery.SignalDelivery.{SignalDelivery}
 use Rattle.vm_parts.specs.Arrived.{Arrived}
 use Rattle.await_trees.specs.declared.nodes.Node.{Node}
 use Rattle.await_trees.specs.Outcomes.{outcome, fires, awake, is_done}

@@ -4,7 +4,7 @@ use Rattle.std.specs.Prelude.{IfNone, IfSome}
 use Rattle.await_arrivals.specs.Came.{enough}
 use Rattle.await_trees.specs.Outcomes.{awake, is_done}
 use Rattle.await_trees.specs.Residual.{same_leaf, same_kind, nothing, kept, here}
-use Rattle.journal_protocol.specs.SignalDelivery.{SignalDelivery}
+use Rattle.journal_values.specs.declared.delivery.SignalDelivery.{SignalDelivery}
 use Rattle.vm_parts.specs.Arrived.{Arrived}
 use Rattle.vm_parts.specs.Deliveries.{id_at, has_result_for, ready_after}
 use Rattle.await_tries.specs.Await.{outcomes, LeastAwake, LeftPending, NeverAwake}

@@ -13,7 +13,7 @@ use Rattle.await_trees.specs.Tree.{Tree, leaf}
 use Rattle.await_trees.specs.Residual.{same_leaf}
 use Rattle.await_trees.proofs.Bools.{or_neither}
 use Rattle.await_trees.proofs.Prune.{same_outcome, same_fires}
-use Rattle.journal_protocol.specs.SignalDelivery.{SignalDelivery}
+use Rattle.journal_values.specs.declared.delivery.SignalDelivery.{SignalDelivery}
 use Rattle.vm_parts.specs.Arrived.{Arrived}
 use Rattle.vm_parts.specs.Deliveries.{id_at, has_result_for, ready_after, first_result_for}
 use Rattle.await_tries.specs.Await.{outcomes, LeastAwake, NeverAwake, LeftPending}

@@ -1,9 +1,9 @@
 -- A walk over nodes, with a stack of the rows of children that are still to come.
 use Rattle.std.proofs.Common.{◌≡◌, ℕ, suc, ◌+◌, ◌-◌, ◌<◌, ◌≤◌, List, [], ◌∷◌, ◌++◌, length, take, drop, get_or, reverse, Option, Some, refl, sym, ap, subst, ◌∙◌, arith, append_assoc, drop-cons}
 use Rattle.std.proofs.lemmas.List.{reverse-append, length-drop}
-use Rattle.journal_protocol.specs.FutureKind.{FutureKind}
-use Rattle.journal_protocol.specs.FutureNode.{FutureNode}
-use Rattle.journal_protocol.specs.NotificationId.{NotificationId}
+use Rattle.journal_attempt.specs.declared.future.FutureKind.{FutureKind}
+use Rattle.journal_attempt.specs.declared.future.FutureNode.{FutureNode}
+use Rattle.journal_values.specs.declared.notification.NotificationId.{NotificationId}
 use Rattle.await_trees.specs.declared.nodes.Node.{Node}
 use Rattle.await_trees.specs.declared.nodes.Label.{Label}
 use Rattle.await_trees.specs.declared.nodes.Label.TheVariants.{Leaf, Inner}

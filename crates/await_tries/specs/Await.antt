@@ -3,7 +3,7 @@ use Rattle.std.specs.Prelude.{ℕ, zero, suc, ◌≡◌, ◌<◌, ◌≤◌, tru
 use Rattle.await_trees.specs.declared.outcome.Outcome.{Outcome}
 use Rattle.await_trees.specs.declared.outcome.Outcome.TheVariants.{Pending}
 use Rattle.vm_parts.specs.Arrived.{Arrived}
-use Rattle.journal_protocol.specs.SignalDelivery.{SignalDelivery}
+use Rattle.journal_values.specs.declared.delivery.SignalDelivery.{SignalDelivery}
 use Rattle.await_tries.specs.Leaves.{leaf_outcome}
 use Rattle.await_tries.specs.Used.{used}
 use Rattle.await_trees.specs.Outcomes.{awake, first_of, Grows}

@@ -1,8 +1,8 @@
 -- A node of a wire future, as its children are read.
 use Rattle.std.specs.Prelude.{ℕ, ◌+◌, ◌++◌, [], Option}
-use Rattle.journal_protocol.specs.FutureKind.{FutureKind}
-use Rattle.journal_protocol.specs.FutureNode.{FutureNode}
-use Rattle.journal_protocol.specs.NotificationId.{NotificationId}
+use Rattle.journal_attempt.specs.declared.future.FutureKind.{FutureKind}
+use Rattle.journal_attempt.specs.declared.future.FutureNode.{FutureNode}
+use Rattle.journal_values.specs.declared.notification.NotificationId.{NotificationId}
 use Rattle.await_trees.specs.Tree.{Forest}
 use Rattle.await_trees.specs.Wires.{with_completion_id, signal_of, with_signal_name, completions, signals, names, inner}
 

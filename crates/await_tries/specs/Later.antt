@@ -1,11 +1,11 @@
 -- A tree and its residual, over all later arrivals.
 use Rattle.std.specs.Prelude.{ℕ, ◌≡◌, ◌<◌, ◌≤◌, true, false, List, [], ◌++◌, ◌+◌, length, None}
-use Rattle.journal_protocol.specs.Notification.{Notification}
-use Rattle.journal_protocol.specs.NotificationId.{NotificationId}
-use Rattle.journal_protocol.specs.NotificationId.TheVariants.{CompletionId}
+use Rattle.journal_values.specs.declared.notification.Notification.{Notification}
+use Rattle.journal_values.specs.declared.notification.NotificationId.{NotificationId}
+use Rattle.journal_values.specs.declared.notification.NotificationId.TheVariants.{CompletionId}
 use Rattle.await_arrivals.specs.Results.{results_of}
-use Rattle.journal_protocol.specs.SignalDelivery.{SignalDelivery}
-use Rattle.journal_protocol.specs.SignalDelivery.TheVariants.{Queued}
+use Rattle.journal_values.specs.declared.delivery.SignalDelivery.{SignalDelivery}
+use Rattle.journal_values.specs.declared.delivery.SignalDelivery.TheVariants.{Queued}
 use Rattle.vm_parts.specs.Arrived.{Arrived}
 use Rattle.vm_parts.specs.Deliveries.{id_at, is_listed, present_result_for}
 use Rattle.await_trees.specs.Outcomes.{is_done, awake}

@@ -1,8 +1,8 @@
 -- The outcome of the leaf of a handle.
 use Rattle.std.specs.Prelude.{ℕ, Option, Some, None}
-use Rattle.journal_protocol.specs.NotificationResult.{NotificationResult}
-use Rattle.journal_protocol.specs.NotificationResult.TheVariants.{Void, Value, Failure, StateKeys, InvocationId}
-use Rattle.journal_protocol.specs.SignalDelivery.{SignalDelivery}
+use Rattle.journal_values.specs.declared.notification.NotificationResult.{NotificationResult}
+use Rattle.journal_values.specs.declared.notification.NotificationResult.TheVariants.{Void, Value, Failure, StateKeys, InvocationId}
+use Rattle.journal_values.specs.declared.delivery.SignalDelivery.{SignalDelivery}
 use Rattle.vm_parts.specs.Arrived.{Arrived}
 use Rattle.vm_parts.specs.Deliveries.{id_at, present_result_for}
 use Rattle.await_trees.specs.declared.outcome.Outcome.{Outcome}

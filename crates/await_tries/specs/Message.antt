@@ -1,9 +1,9 @@
 -- What a suspension says, over all later arrivals.
 use Rattle.std.specs.Prelude.{ℕ, ◌≡◌, ◌+◌, List, take, length, Option}
-use Rattle.journal_protocol.specs.Notification.{Notification}
-use Rattle.journal_protocol.specs.NotificationId.{NotificationId}
+use Rattle.journal_values.specs.declared.notification.Notification.{Notification}
+use Rattle.journal_values.specs.declared.notification.NotificationId.{NotificationId}
 use Rattle.await_arrivals.specs.Results.{results_of, first}
-use Rattle.journal_protocol.specs.SignalDelivery.{SignalDelivery}
+use Rattle.journal_values.specs.declared.delivery.SignalDelivery.{SignalDelivery}
 use Rattle.vm_parts.specs.Arrived.{Arrived}
 use Rattle.vm_parts.specs.Deliveries.{id_at}
 use Rattle.await_trees.specs.declared.outcome.Outcome.{Outcome}

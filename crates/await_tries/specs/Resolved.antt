@@ -1,6 +1,6 @@
 -- What a try of a future answers.
 use Rattle.std.specs.Prelude.{ℕ, ◌≡◌, length}
-use Rattle.journal_protocol.specs.SignalDelivery.{SignalDelivery}
+use Rattle.journal_values.specs.declared.delivery.SignalDelivery.{SignalDelivery}
 use Rattle.vm_parts.specs.Arrived.{Arrived}
 use Rattle.await_trees.specs.Tree.{Tree}
 use Rattle.await_tries.specs.declared.residue.Resolution.{Resolution}

@@ -1,6 +1,6 @@
 -- The tree that nodes represent.
 use Rattle.std.specs.Prelude.{ℕ, ◌≡◌, ◌<◌, List, [], ◌∷◌, length, take, drop, get_or}
-use Rattle.journal_protocol.specs.FutureKind.{FutureKind}
+use Rattle.journal_attempt.specs.declared.future.FutureKind.{FutureKind}
 use Rattle.await_trees.specs.declared.nodes.Label.TheVariants.{Leaf, Inner}
 use Rattle.await_trees.specs.declared.nodes.Node.{Node}
 use Rattle.await_trees.specs.Tree.{Tree, Forest, leaf, node, none, more}

@@ -6,7 +6,7 @@ ghost use Rattle.await_tries.specs.Courses.{outcome_by, course_at, any_fires_by,
 
 use await_trees::Outcome;
 use await_trees::outcome::{fires_on, outcome_of, waits_for};
-use journal_protocol::FutureKind;
+use journal_attempt::FutureKind;
 
 /// A tree's outcome; how many notifications it takes until the tree has it; and how many until the await that it stands in
 /// wakes on its account. None: all that came are too few.

@@ -10,7 +10,7 @@ ghost use Rattle.await_tries.specs.Spells.{node_at, Spells};
 
 use crate::course::{Course, course_of};
 use await_trees::{Label, Node, Outcome};
-use journal_protocol::{NotificationResult, SignalDelivery};
+use journal_values::{NotificationResult, SignalDelivery};
 use std::alloc::{AllocError, Global};
 use vm_parts::AsyncResults;
 

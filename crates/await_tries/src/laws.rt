@@ -1,6 +1,6 @@
 //! Laws of tries, as functions that do nothing.
 ghost use Rattle.std.specs.Prelude.{◌≡◌, ℕ, length};
-ghost use Rattle.journal_protocol.specs.SignalDelivery.{SignalDelivery as Delivery};
+ghost use Rattle.journal_values.specs.declared.delivery.SignalDelivery.{SignalDelivery as Delivery};
 ghost use Rattle.vm_parts.specs.Arrived.{Arrived};
 ghost use Rattle.await_trees.specs.Same.{Same};
 ghost use Rattle.await_trees.specs.Tree.{Tree};

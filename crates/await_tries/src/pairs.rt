@@ -2,7 +2,7 @@
 ghost use Rattle.std.specs.Prelude.{IfNone, IfSome};
 ghost use Rattle.await_tries.specs.Await.{LeastAwake, LeftPending};
 ghost use Rattle.await_tries.specs.Pairs.{first_of_two};
-ghost use Rattle.journal_protocol.specs.SignalDelivery.{SignalDelivery as Delivery};
+ghost use Rattle.journal_values.specs.declared.delivery.SignalDelivery.{SignalDelivery as Delivery};
 
 use crate::course::sooner;
 use vm_parts::AsyncResults;

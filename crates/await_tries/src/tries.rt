@@ -9,7 +9,7 @@ use crate::pruning::prune;
 use crate::residue::{Residue, Resolution};
 use crate::using::{use_all, use_first};
 use await_trees::{Label, Node, UnresolvedFuture, list_nodes};
-use journal_protocol::SignalDelivery;
+use journal_values::SignalDelivery;
 use std::alloc::{AllocError, Global};
 use vm_parts::AsyncResults;
 

@@ -12,7 +12,7 @@ use Rattle.std.proofs.lemmas.List.Sorted.{searchable_from_sorted}
 use Rattle.std.proofs.lemmas.Bool.Decides.{nat_tests}
 use Rattle.vm_parts.specs.declared.handles.Held.{Held}
 use Rattle.vm_parts.specs.declared.async_results.Mapping.{Mapping}
-use Rattle.journal_protocol.specs.NotificationId.{NotificationId}
+use Rattle.journal_values.specs.declared.notification.NotificationId.{NotificationId}
 use Rattle.std.proofs.lemmas.Map.Lookups
 use Rattle.vm_parts.specs.Deliveries.{id_at, unmapped}
 use Rattle.vm_parts.specs.Mappings.{live_mappings, mapping_if, MappingsAscend, MappingsAbove, AllUnder, IsMappingAt, HasNoMapping}

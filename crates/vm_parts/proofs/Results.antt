@@ -1,13 +1,13 @@
 -- Takes that find nothing.
 use Rattle.std.proofs.Common.{◌≡◌, ℕ, Bool, true, false, cond, List, [], ◌∷◌, Option, Some, None, refl, sym, ap, ◌∙◌}
-use Rattle.journal_protocol.specs.Notification.{Notification}
-use Rattle.journal_protocol.specs.NotificationId.{NotificationId}
-use Rattle.journal_protocol.specs.NotificationResult.{NotificationResult}
+use Rattle.journal_values.specs.declared.notification.Notification.{Notification}
+use Rattle.journal_values.specs.declared.notification.NotificationId.{NotificationId}
+use Rattle.journal_values.specs.declared.notification.NotificationResult.{NotificationResult}
 use Rattle.std.specs.Prelude.{◌||◌}
 use Rattle.vm_parts.specs.Arrived.{Arrived, Ready}
 use Rattle.std.specs.Option.{option_or}
 use Rattle.vm_parts.specs.Deliveries.{same_id, results_of, first, newest, newest_after, without_oldest, without_all, left_among, left_ready, present_result, present_among, present_result_for, first_result_for, id_at, is_listed, IsTakeOf}
-use Rattle.journal_protocol.specs.SignalDelivery.{SignalDelivery}
+use Rattle.journal_values.specs.declared.delivery.SignalDelivery.{SignalDelivery}
 
 -- ---- an id without a result
 

@@ -1,6 +1,6 @@
 -- What contracts see of the notifications of an attempt, each list in order of arrival.
 use Rattle.std.specs.Prelude.{List}
-use Rattle.journal_protocol.specs.Notification.{Notification}
+use Rattle.journal_values.specs.declared.notification.Notification.{Notification}
 use Rattle.vm_parts.specs.declared.async_results.Mapping.{Mapping}
 
 -- The results that are ready, and not taken: those that an await used, and those that eager reads

@@ -2,16 +2,16 @@
 -- result among the used ones that were not taken.
 use Rattle.std.specs.Prelude.{ℕ, ◌≡◌, ◌==◌, Bool, true, false, ◌||◌, cond, List, [], ◌∷◌, ◌++◌, take, Option, Some, None}
 use Rattle.std.specs.Option.{option_or}
-use Rattle.journal_protocol.specs.Notification.{Notification}
-use Rattle.journal_protocol.specs.NotificationId.{NotificationId}
-use Rattle.journal_protocol.specs.NotificationId.TheVariants.{CompletionId, SignalId, SignalName}
-use Rattle.journal_protocol.specs.NotificationResult.{NotificationResult}
+use Rattle.journal_values.specs.declared.notification.Notification.{Notification}
+use Rattle.journal_values.specs.declared.notification.NotificationId.{NotificationId}
+use Rattle.journal_values.specs.declared.notification.NotificationId.TheVariants.{CompletionId, SignalId, SignalName}
+use Rattle.journal_values.specs.declared.notification.NotificationResult.{NotificationResult}
 use Rattle.await_arrivals.specs.Came.{one_used}
 pub use Rattle.await_arrivals.specs.Ids.{same_id}
 pub use Rattle.await_arrivals.specs.Results.{results_of, has_result_among, first, newest_after, newest, without_oldest, without_all}
 use Rattle.vm_parts.specs.declared.async_results.Mapping.{Mapping}
-use Rattle.journal_protocol.specs.SignalDelivery.{SignalDelivery}
-use Rattle.journal_protocol.specs.SignalDelivery.TheVariants.{Queued, Overwrite}
+use Rattle.journal_values.specs.declared.delivery.SignalDelivery.{SignalDelivery}
+use Rattle.journal_values.specs.declared.delivery.SignalDelivery.TheVariants.{Queued, Overwrite}
 use Rattle.vm_parts.specs.Arrived.{Arrived, Ready}
 
 -- no result is ready

@@ -1,7 +1,7 @@
 -- Handles that were handed out in ascending order, and which of them still stand for an id.
 use Rattle.std.specs.Prelude.{ℕ, ◌≡◌, ◌<◌, slice_index_or, length, List, [], ◌∷◌, Option, Some, None, zero, suc, ◌+◌}
-use Rattle.journal_protocol.specs.NotificationId.{NotificationId}
-use Rattle.journal_protocol.specs.NotificationId.TheVariants.{CompletionId}
+use Rattle.journal_values.specs.declared.notification.NotificationId.{NotificationId}
+use Rattle.journal_values.specs.declared.notification.NotificationId.TheVariants.{CompletionId}
 use Rattle.vm_parts.specs.declared.async_results.Mapping.{Mapping}
 use Rattle.vm_parts.specs.declared.handles.Held.{Held}
 

@@ -1,9 +1,9 @@
 -- What an attempt keeps of its Start message.
 use Rattle.std.specs.Prelude.{ℕ, Bool, true, false, if◌then◌else◌, Option, None}
 use Rattle.vm_parts.specs.declared.context.StartInfo.{StartInfo}
-use Rattle.journal_protocol.specs.Start.{Start}
-use Rattle.journal_protocol.specs.Version.{Version}
-use Rattle.journal_protocol.specs.Versions.{is_from_v6, is_from_v7}
+use Rattle.journal_attempt.specs.declared.start.Start.{Start}
+use Rattle.journal_errors.specs.declared.version.Version.{Version}
+use Rattle.journal_errors.specs.Versions.{is_from_v6, is_from_v7}
 
 -- from this version on
 abbrev pub from_version : {A : Type 0} → Bool → Option A → Option A

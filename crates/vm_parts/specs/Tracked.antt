@@ -3,8 +3,8 @@
 use Rattle.std.specs.Prelude.{ℕ, ◌≡◌, ◌<◌, ◌≤◌, Bool, true, false, ◌||◌, ◌==◌, nat_lt, if◌then◌else◌, List, [], ◌∷◌, length, take, slice_index_or, Option, Some, None}
 use Rattle.std.specs.List.Sorted.{IsPartitionPoint}
 use Rattle.std.specs.Option.{option_map}
-use Rattle.journal_protocol.specs.NotificationResult.{NotificationResult}
-use Rattle.journal_protocol.specs.NotificationResult.TheVariants as result
+use Rattle.journal_values.specs.declared.notification.NotificationResult.{NotificationResult}
+use Rattle.journal_values.specs.declared.notification.NotificationResult.TheVariants as result
 use Rattle.vm_parts.specs.declared.tracked_call.TrackedCall.{TrackedCall}
 
 -- a call whose invocation's id isn't known

@@ -7,7 +7,7 @@ ghost use Rattle.vm_parts.specs.Deliveries.{id_at, is_known, no_results, is_list
 
 use crate::handles::Handles;
 use await_arrivals::{Arrivals, EagerResults};
-use journal_protocol::{Notification, NotificationId, NotificationResult, SignalDelivery};
+use journal_values::{Notification, NotificationId, NotificationResult, SignalDelivery};
 use plain::copy_of;
 use std::alloc::{AllocError, Global};
 use std::marker::Model;

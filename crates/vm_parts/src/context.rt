@@ -11,7 +11,7 @@ ghost use Rattle.vm_parts.specs.Counting.{fresh_counters, next_index, missing_nu
 use crate::entries::Entries;
 use crate::state_key::StateKey;
 use bytes::Bytes;
-use journal_protocol::{MessageType, NamedFault};
+use journal_errors::{MessageType, NamedFault};
 use plain::{Items, Text, copy_of};
 use std::alloc::{AllocError, Global};
 

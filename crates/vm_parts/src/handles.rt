@@ -5,7 +5,7 @@ ghost use Rattle.vm_parts.specs.Deliveries.{id_at, unmapped};
 ghost use Rattle.vm_parts.specs.Mappings.{live_mappings, MappingsAscend, AllUnder, IsMappingAt, HasNoMapping};
 
 use crate::async_results::Mapping;
-use journal_protocol::NotificationId;
+use journal_values::NotificationId;
 use std::alloc::{AllocError, Global};
 use std::marker::Model;
 

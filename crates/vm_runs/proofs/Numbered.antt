@@ -5,7 +5,7 @@ use Rattle.std.specs.List.{AllByRecursion, find}
 use Rattle.std.specs.BTreeMap.{is_at}
 use Rattle.std.specs.Map.{remove_entry, values_of}
 use Rattle.std.proofs.lemmas.Bool.Decides.{nat_tests}
-use Rattle.journal_protocol.specs.ProposeRunCompletion.{ProposeRunCompletion}
+use Rattle.journal_attempt.specs.declared.runs.ProposeRunCompletion.{ProposeRunCompletion}
 use Rattle.vm_runs.specs.Firsts.{without_first}
 use Rattle.vm_runs.specs.Kept.{is_for}
 

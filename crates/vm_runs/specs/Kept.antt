@@ -4,8 +4,8 @@ use Rattle.std.specs.List.{AllByRecursion}
 use Rattle.std.specs.Map.{lookup}
 use Rattle.std.specs.BTreeMap.{is_at}
 use Rattle.std.specs.Ordering.{nat_cmp}
-use Rattle.journal_protocol.specs.ValueOrFailure.{ValueOrFailure}
-use Rattle.journal_protocol.specs.ProposeRunCompletion.{ProposeRunCompletion}
+use Rattle.journal_values.specs.declared.parts.ValueOrFailure.{ValueOrFailure}
+use Rattle.journal_attempt.specs.declared.runs.ProposeRunCompletion.{ProposeRunCompletion}
 
 -- of the run that this id completes
 abbrev pub is_for : ℕ → ProposeRunCompletion → Bool

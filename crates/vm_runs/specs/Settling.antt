@@ -3,12 +3,12 @@ use Rattle.std.specs.Prelude.{ℕ, ◌≡◌, ◌+◌, ◌^◌, ◌-◌, min, []
 use Rattle.std.specs.Option.{option_map}
 use Rattle.std.specs.Duration.{as_nanos, max_nanos}
 use Rattle.std.specs.declared.time.Duration.{Duration}
-use Rattle.journal_protocol.specs.Error.{Error}
-use Rattle.journal_protocol.specs.ErrorBehavior.TheVariants as behavior
-use Rattle.journal_protocol.specs.RelatedCommand.{RelatedCommand}
-use Rattle.journal_protocol.specs.MessageType.TheVariants as type
-use Rattle.journal_protocol.specs.Failure.{Failure}
-use Rattle.journal_protocol.specs.ValueOrFailure.TheVariants as proposed
+use Rattle.journal_errors.specs.declared.error.Error.{Error}
+use Rattle.journal_errors.specs.declared.error.ErrorBehavior.TheVariants as behavior
+use Rattle.journal_errors.specs.declared.error.RelatedCommand.{RelatedCommand}
+use Rattle.journal_errors.specs.declared.types.MessageType.TheVariants as type
+use Rattle.journal_values.specs.declared.parts.Failure.{Failure}
+use Rattle.journal_values.specs.declared.parts.ValueOrFailure.TheVariants as proposed
 use Rattle.vm_retries.specs.declared.policy.RetryPolicy.{RetryPolicy}
 use Rattle.vm_retries.specs.Policies.{Verdict, retried, failed, paused, next_retry}
 use Rattle.vm_runs.specs.declared.pending.PendingRun.{PendingRun}

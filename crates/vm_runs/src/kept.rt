@@ -5,7 +5,8 @@ ghost use Rattle.vm_runs.specs.Firsts.{without_first};
 ghost use Rattle.vm_runs.specs.Kept.{is_for, result_of};
 
 use crate::ordered_proposals::OrderedProposals;
-use journal_protocol::{ProposeRunCompletion, ValueOrFailure};
+use journal_attempt::ProposeRunCompletion;
+use journal_values::ValueOrFailure;
 use std::alloc::{AllocError, Global};
 use std::marker::Model;
 
@@ -17,7 +18,7 @@ struct LateProposals {
 
 impl Model for LateProposals {
     ghost use Rattle.std.specs.Prelude.{List};
-    ghost use Rattle.journal_protocol.specs.ProposeRunCompletion.{ProposeRunCompletion};
+    ghost use Rattle.journal_attempt.specs.declared.runs.ProposeRunCompletion.{ProposeRunCompletion};
 
     ghost Value = { List ProposeRunCompletion };
 
@@ -77,7 +78,7 @@ pub struct KeptProposals {
 
 impl Model for KeptProposals {
     ghost use Rattle.std.specs.Prelude.{◌++◌, List};
-    ghost use Rattle.journal_protocol.specs.ProposeRunCompletion.{ProposeRunCompletion};
+    ghost use Rattle.journal_attempt.specs.declared.runs.ProposeRunCompletion.{ProposeRunCompletion};
 
     ghost Value = { List ProposeRunCompletion };
 

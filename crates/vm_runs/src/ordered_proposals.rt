@@ -7,7 +7,8 @@ ghost use Rattle.std.specs.Option.{option_map};
 ghost use Rattle.vm_runs.specs.Firsts.{without_first};
 ghost use Rattle.vm_runs.specs.Kept.{AtNumbers, is_for, result_of};
 
-use journal_protocol::{ProposeRunCompletion, ValueOrFailure};
+use journal_attempt::ProposeRunCompletion;
+use journal_values::ValueOrFailure;
 use std::alloc::{AllocError, Global};
 use std::collections::BTreeMap;
 use std::marker::Model;
@@ -26,7 +27,7 @@ impl Model for OrderedProposals {
     ghost use Rattle.std.specs.List.Sorted.{IsStrictlySortedBy};
     ghost use Rattle.std.specs.Map.{keys_of, values_of};
     ghost use Rattle.std.specs.Ordering.{nat_cmp};
-    ghost use Rattle.journal_protocol.specs.ProposeRunCompletion.{ProposeRunCompletion};
+    ghost use Rattle.journal_attempt.specs.declared.runs.ProposeRunCompletion.{ProposeRunCompletion};
     ghost use Rattle.vm_runs.specs.Kept.{AtNumbers};
 
     ghost Value = { List ProposeRunCompletion };

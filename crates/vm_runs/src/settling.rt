@@ -1,14 +1,13 @@
 //! What becomes of a run's result: it is proposed, or an error ends the attempt.
 ghost use Rattle.std.specs.Prelude.{◌≡◌, ◌∷◌, IfOk, Some};
 ghost use Rattle.std.specs.Duration.{as_nanos};
-ghost use Rattle.journal_protocol.specs.ErrorBehavior.TheVariants as behavior;
+ghost use Rattle.journal_errors.specs.declared.error.ErrorBehavior.TheVariants as behavior;
 ghost use Rattle.vm_retries.specs.Policies.{in_nanos};
 ghost use Rattle.vm_runs.specs.Settling.{SettlesRun, FailsAs, count_with, nanos_with, run_as_related, as_terminal_failure};
 
 use crate::pending::PendingRun;
-use journal_protocol::{
-    Error, ErrorBehavior, Failure, MessageType, RelatedCommand, ValueOrFailure,
-};
+use journal_errors::{Error, ErrorBehavior, MessageType, RelatedCommand};
+use journal_values::{Failure, ValueOrFailure};
 use plain::{Items, Text};
 use std::alloc::{AllocError, Global};
 use std::time::Duration;

@@ -1,7 +1,7 @@
 -- The message types by which errors name commands, and the texts that name them to people.
 use Rattle.std.specs.Prelude.{ℕ, List, codes}
-use Rattle.journal_protocol.specs.MessageType.{MessageType}
-use Rattle.journal_protocol.specs.MessageType.TheVariants as message
+use Rattle.journal_errors.specs.declared.types.MessageType.{MessageType}
+use Rattle.journal_errors.specs.declared.types.MessageType.TheVariants as message
 use Rattle.vm_types.specs.declared.command_type.CommandType.{CommandType}
 use Rattle.vm_types.specs.declared.command_type.CommandType.TheVariants as command
 

@@ -9,7 +9,7 @@ use Rattle.vm_types.specs.declared.options.JournalReplay.TheVariants as replay
 use Rattle.vm_types.specs.declared.options.NonDeterministicChecksOption.TheVariants as checks
 use Rattle.vm_types.specs.declared.options.NonDeterministicChecksOption.{NonDeterministicChecksOption}
 use Rattle.vm_types.specs.declared.options.JournalReplay.{JournalReplay}
-use Rattle.journal_protocol.specs.SignalDelivery.TheVariants as delivery
+use Rattle.journal_values.specs.declared.delivery.SignalDelivery.TheVariants as delivery
 
 -- the options of a VM by default
 abbrev pub default_options : VMOptions

@@ -6,7 +6,7 @@ use Rattle.std.proofs.lemmas.Bool.Decides.{Decides-eqb}
 use Rattle.plain.specs.Same.{Exact, exact_bool, exact_pair, exact_on, exact_option}
 use Rattle.await_trees.specs.declared.handle.NotificationHandle.{NotificationHandle}
 use Rattle.await_trees.specs.contracts.handle.NotificationHandlePartialEq.TheImpl as handles
-use Rattle.journal_protocol.specs.HeaderPartialEq.TheImpl as headers
+use Rattle.journal_values.specs.contracts.parts.HeaderPartialEq.TheImpl as headers
 use Rattle.vm_types.specs.declared.command_type.CommandType.TheVariants as type
 use Rattle.vm_types.specs.declared.command_type.CommandRelationship.TheVariants as related
 use Rattle.vm_types.specs.declared.values.Value.TheVariants as value

@@ -2,11 +2,11 @@
 use Rattle.std.specs.Prelude.{ℕ, ◌%◌, if◌then◌else◌, List, Option, Some, None, codes}
 use Rattle.std.specs.List.{list_all}
 use Rattle.std.specs.Str.{is_utf8}
-use Rattle.journal_protocol.specs.Failure.{Failure}
-use Rattle.journal_protocol.specs.ValueOrFailure.{ValueOrFailure}
-use Rattle.journal_protocol.specs.ValueOrFailure.TheVariants as message
-use Rattle.journal_protocol.specs.NotificationResult.{NotificationResult}
-use Rattle.journal_protocol.specs.NotificationResult.TheVariants as found
+use Rattle.journal_values.specs.declared.parts.Failure.{Failure}
+use Rattle.journal_values.specs.declared.parts.ValueOrFailure.{ValueOrFailure}
+use Rattle.journal_values.specs.declared.parts.ValueOrFailure.TheVariants as message
+use Rattle.journal_values.specs.declared.notification.NotificationResult.{NotificationResult}
+use Rattle.journal_values.specs.declared.notification.NotificationResult.TheVariants as found
 use Rattle.vm_types.specs.declared.values.TerminalFailure.{TerminalFailure}
 use Rattle.vm_types.specs.declared.values.NonEmptyValue.{NonEmptyValue}
 use Rattle.vm_types.specs.declared.values.NonEmptyValue.TheVariants as given

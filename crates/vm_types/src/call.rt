@@ -6,7 +6,7 @@ use crate::steps::Step;
 use crate::types::EphemeralCompletionId;
 use await_trees::NotificationHandle;
 use bytes::Bytes;
-use journal_protocol::Error;
+use journal_errors::Error;
 use plain::Text;
 use vm_retries::RetryPolicy;
 

@@ -2,7 +2,7 @@
 ghost use Rattle.std.specs.Prelude.{◌≡◌, Some};
 ghost use Rattle.vm_types.specs.CommandTypes.{message_type, command_text};
 
-use journal_protocol::MessageType;
+use journal_errors::MessageType;
 use plain::Text;
 use std::fmt;
 

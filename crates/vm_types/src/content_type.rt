@@ -1,6 +1,6 @@
 //! The headers of a request that has a content type and nothing else.
 
-use journal_protocol::HeaderMap;
+use journal_errors::HeaderMap;
 
 /// A request's content type.
 #[derive(Debug, Drop)]

@@ -35,4 +35,4 @@ pub use types::{
 pub use values::{Input, NonEmptyValue, ResponseHead, Target, TerminalFailure, Value};
 
 /// What a call of the VM answers.
-pub type VMResult<T> = Result<T, journal_protocol::Error>;
+pub type VMResult<T> = Result<T, journal_errors::Error>;

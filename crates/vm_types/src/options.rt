@@ -6,7 +6,7 @@ ghost use Rattle.vm_types.specs.declared.options.JournalMismatchRetryBehavior.Th
 ghost use Rattle.vm_types.specs.declared.options.JournalReplay.TheVariants as replay;
 ghost use Rattle.vm_types.specs.declared.options.NonDeterministicChecksOption.TheVariants as checks;
 
-use journal_protocol::SignalDelivery;
+use journal_values::SignalDelivery;
 
 /// How the payload of one call is compared in replay.
 #[derive(Clone, Copy, Debug)]

@@ -4,7 +4,7 @@ use crate::steps::Answer;
 use crate::types::{AwaitResponse, EphemeralCompletionId, State};
 use crate::values::ResponseHead;
 use bytes::Bytes;
-use journal_protocol::{Error, Version};
+use journal_errors::{Error, Version};
 
 /// The reply to a call, or to a line that makes none.
 #[derive(Debug, Drop)]

@@ -5,7 +5,7 @@ ghost use Rattle.vm_types.specs.Exits.{exit_has_metadata, exit_of_value};
 use crate::values::{NonEmptyValue, TerminalFailure};
 use await_trees::NotificationHandle;
 use bytes::Bytes;
-use journal_protocol::Error;
+use journal_errors::Error;
 use std::time::Duration;
 
 /// A run that was called.

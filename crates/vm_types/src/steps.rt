@@ -6,7 +6,7 @@ use crate::types::{AwakeableHandle, CallHandle, DeadlineCallHandle, SendHandle};
 use crate::values::{Input, NonEmptyValue, Target, Value};
 use await_trees::{NotificationHandle, UnresolvedFuture};
 use bytes::Bytes;
-use journal_protocol::InvocationTarget;
+use journal_calls::InvocationTarget;
 use plain::Text;
 use std::time::Duration;
 

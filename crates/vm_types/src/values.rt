@@ -3,7 +3,8 @@ ghost use Rattle.std.specs.Prelude.{◌≡◌, codes, IfOk};
 ghost use Rattle.vm_types.specs.Values.{terminal_failure, failure_message, value_message, value_of, texts_in, case_name, as_value};
 
 use bytes::Bytes;
-use journal_protocol::{Failure, Header, NotificationResult, ValueOrFailure, Version};
+use journal_errors::Version;
+use journal_values::{Failure, Header, NotificationResult, ValueOrFailure};
 use plain::{Items, Text};
 use std::alloc::{AllocError, Global};
 

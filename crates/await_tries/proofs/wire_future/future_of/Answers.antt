@@ -1,5 +1,5 @@
 use Rattle.std.proofs.Common.{rules, ◌≡◌, true, Some}
-use Rattle.journal_protocol.specs.Futures.{are_whole}
+use Rattle.journal_attempt.specs.Futures.{are_whole}
 use Rattle.await_trees.proofs.Readings.{sent_whole}
 use Rattle.await_tries.specs.Left.{tree_left}
 use Rattle.await_tries.specs.Message.{ids}

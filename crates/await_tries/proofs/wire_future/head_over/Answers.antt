@@ -1,6 +1,6 @@
 use Rattle.std.proofs.Common.{◌≡◌, ◌<◌, ◌+◌, [], length, drop, ap, ◌∙◌, arith}
 use Rattle.std.proofs.lemmas.List.{drop_all}
-use Rattle.journal_protocol.specs.FutureNode.{FutureNode}
+use Rattle.journal_attempt.specs.declared.future.FutureNode.{FutureNode}
 use Rattle.await_tries.specs.Heads.{bare, with_leaf_id, with_children}
 use Rattle.await_tries.specs.Message.{ids}
 use Rattle.await_tries.specs.Walks.{reads}

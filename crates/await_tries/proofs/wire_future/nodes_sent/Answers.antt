@@ -1,5 +1,5 @@
 use Rattle.std.proofs.Common.{rules, ℕ, ◌≡◌, ◌+◌, ◌∷◌, ◌++◌, [], List, Option, Some, reverse, refl, sym, ap, subst, ◌∙◌}
-use Rattle.journal_protocol.specs.FutureNode.{FutureNode}
+use Rattle.journal_attempt.specs.declared.future.FutureNode.{FutureNode}
 use Rattle.await_trees.specs.Wires.{head_of, nested, sent}
 use Rattle.await_tries.specs.declared.walk.Row.{Row}
 use Rattle.await_tries.specs.Left.{Left, IsTreeLeft}

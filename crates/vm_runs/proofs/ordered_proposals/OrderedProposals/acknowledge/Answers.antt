@@ -3,7 +3,7 @@ use Rattle.std.specs.BTreeMap.{is_at}
 use Rattle.std.specs.Map.{lookup, values_of}
 use Rattle.std.specs.Option.{option_map}
 use Rattle.std.proofs.lemmas.Map.{none_passes_from_lookup}
-use Rattle.journal_protocol.specs.ProposeRunCompletion.{ProposeRunCompletion}
+use Rattle.journal_attempt.specs.declared.runs.ProposeRunCompletion.{ProposeRunCompletion}
 use Rattle.vm_runs.specs.Firsts.{without_first}
 use Rattle.vm_runs.specs.Kept.{is_for, result_of}
 use Rattle.vm_runs.proofs.Entries.{SayTheSame, found, removed}

@@ -1,7 +1,7 @@
 use Rattle.std.proofs.Common.{ℕ, ◌∷◌, [], ◌++◌, Option, Some, ap, sym, subst, nat_cmp, ◌∙◌}
 use Rattle.std.specs.BTreeMap.{is_at}
 use Rattle.std.specs.Map.{lookup, values_of}
-use Rattle.journal_protocol.specs.ProposeRunCompletion.{ProposeRunCompletion}
+use Rattle.journal_attempt.specs.declared.runs.ProposeRunCompletion.{ProposeRunCompletion}
 use Rattle.vm_runs.proofs.Entries.{added, values_added}
 use Rattle.vm_runs.proofs.Numbered.{AtNum, NoneFor, one_more, others_lead, unless_some}
 use Rattle.vm_runs.proofs.ordered_proposals.OrderedProposals.keep.Goals as goal
