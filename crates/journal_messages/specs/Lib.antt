@@ -1,4 +1,5 @@
 pub mod Message
+pub mod Awaiting
 pub mod Reading
 pub mod Commands
 pub mod Frames

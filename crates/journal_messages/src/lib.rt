@@ -2,6 +2,7 @@
 //! comparison, with the first field in which two commands aren't the same. The types of the bodies are passed on.
 #![tactic(auto)]
 
+mod awaiting;
 mod decoder;
 mod field;
 mod header_equality;

@@ -2,9 +2,12 @@
 ghost use Rattle.std.specs.Prelude.{◌≡◌, ◌==◌, ◌++◌, IfOk, OnOk};
 ghost use Rattle.journal_errors.specs.Types.{type_number};
 ghost use Rattle.wire.specs.Reads.{Read};
+ghost use Rattle.journal_messages.specs.Awaiting.{awaiting_id};
+ghost use Rattle.journal_messages.specs.declared.message.Message.TheVariants as message;
 ghost use Rattle.journal_messages.specs.Reading.{acknowledgement_in, body_as, ephemeral_notification_in, input_in, message_in, notification_in, proposal_in, start_in};
 ghost use Rattle.journal_messages.specs.Message.{IsWhole, body, encoding, frame, numbered_frame, type_of, IsValid, DecodesTo, Decodes};
 
+use crate::awaiting::put_awaiting;
 use bytes::Bytes;
 use journal_attempt::{
     AwaitingOn, InputCommand, OutputCommand, ProposeRunCompletion, ProposeRunCompletionAck,
@@ -20,7 +23,7 @@ use journal_state::{
     GetLazyStateCommand, GetLazyStateKeysCommand, GetStateEphemeralCommand,
     GetStateEphemeralNotification, SetStateCommand,
 };
-use journal_values::Notification;
+use journal_values::{Notification, NotificationId};
 use std::alloc::{AllocError, Global};
 use wire::{Fault, Wire, put_head, set_length, whole};
 
@@ -205,6 +208,26 @@ impl Encoder {
         frame.reserve(ROOM)?;
         put_head(message.ty().number(), frame)?;
         message.put_body(frame)?;
+        set_length(frame);
+        Ok(())
+    }
+
+    /// As `encode_in`, of an `AwaitingOn` on an id, or on the first of it and the other signal. No message is made, so memory is taken for
+    /// the buffer alone.
+    pub fn encode_awaiting_in(
+        &self,
+        id: &NotificationId,
+        other: Option<u32>,
+        frame: &mut Vec<u8>,
+    ) -> Result<(), AllocError>
+        ensures written { OnOk result (frame.new.items
+            ≡ encoding (message.AwaitingOn (awaiting_id id.now other))) }
+        ensures valid { OnOk result (IsWhole (message.AwaitingOn (awaiting_id id.now other))) }
+    {
+        frame.clear();
+        frame.reserve(ROOM)?;
+        put_head(MessageType::AwaitingOn.number(), frame)?;
+        put_awaiting(id, other, frame)?;
         set_length(frame);
         Ok(())
     }

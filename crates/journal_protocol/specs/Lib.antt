@@ -1,3 +1,4 @@
+pub mod Awaiting
 pub mod Bodies
 pub mod Commands
 pub mod Equality
