@@ -10,6 +10,7 @@ from collections.abc import Mapping
 from pathlib import Path
 
 from . import packages
+from .proofs import SAYS_KEPT
 
 TOP = Path(__file__).resolve().parents[2]
 MEMORY = 4_000_000  # kilobytes for each crate that is proved
@@ -78,6 +79,16 @@ def lanes() -> int:
 
 
 def keeps_proofs() -> bool:
-    """Whether `rt ci` can keep what it has proved, beside the kit, for a later one on this machine."""
+    """Whether `rt ci` keeps what it has proved, beside the kit, for a later one on this machine: the kit's `rt` is one that says so of a crate, and
+    may write there. Not every kit's does."""
     rt = shutil.which("rt")
-    return rt is not None and os.access(Path(rt).resolve().parents[2], os.W_OK)
+    if rt is None:
+        return False
+    place = Path(rt).resolve()
+    return any(SAYS_KEPT.encode() in it.read_bytes() for it in place.parent.glob("rt*")) and os.access(place.parents[2], os.W_OK)
+
+
+def with_priority(nice: int, words: tuple[str, ...]) -> tuple[str, ...]:
+    """A command that leaves the processors to others by this much. Where Linux weighs sessions, a process's own number counts only within its session, so
+    the session has the same."""
+    return ("sh", "-c", '{ echo "$0" >/proc/self/autogroup; } 2>/dev/null; exec nice -n "$0" "$@"', str(nice), *words)

@@ -11,7 +11,8 @@ from dataclasses import dataclass, field
 from pathlib import Path
 
 PROVED = re.compile(r"^rt: (\w+) proved$")
-KEPT = re.compile(r"^rt: (\w+) is kept: ")
+SAYS_KEPT = "is kept: "  # of a crate, by rt ci, if it takes what an earlier run has proved
+KEPT = re.compile(rf"^rt: (\w+) {SAYS_KEPT}")
 FAILED = re.compile(r"^rt: (\w+) NOT PROVED")
 TESTS = re.compile(r"^rt: (\w+): its tests are ")
 TICKS = os.sysconf("SC_CLK_TCK")

@@ -14,7 +14,7 @@ from dataclasses import dataclass, replace
 from pathlib import Path
 
 from . import counts, tree
-from .environment import TOP, cores, environment, free_memory, keeps_proofs, lanes, named_lanes, processors, start_anew
+from .environment import TOP, cores, environment, free_memory, keeps_proofs, lanes, named_lanes, processors, start_anew, with_priority
 from .jobs import Done, Job, Runner, total
 from .parts import has_tests, job, programs, script
 from .proofs import Crate, Processors, Proofs, read_crates, read_times
@@ -30,6 +30,8 @@ ROOM = 5_000_000  # kilobytes for each processor, if two runs of rt ci prove bes
 HOURS = 6 * 3600  # that rt ci may take
 SMALL = 1_500_000  # kilobytes for a job that proves nothing
 LOOK = 2  # seconds between two looks at the processes
+BESIDE_CHAIN = 5  # the priority of what is proved beside the longest chain
+BESIDE_TESTS = 2  # of all proofs beside ./test: its four jobs leave one check more than half a processor by this, and a third by 5
 
 ABOUT = """Proves every crate except those of tests and the bench, and has the prover refuse the wrong bodies of the gate (rt ci, in a folder of its own).
 Then each program runs once without each of its allocations in turn, and so do the examples in C and Python, over the library built from
@@ -57,7 +59,7 @@ PARTS = [
 
 def jobs(seconds: dict[str, float], chain: Path | None, after: int | None) -> Iterator[Job]:
     """The jobs of ./prove, with the seconds that they took last time. If there is a folder of the crates of the longest chain, these are also proved there,
-    and begin at once. The crates beside them wait until a process has ended, if one is given."""
+    and begin at once. The crates beside them wait until a process has ended, if one is given. One rt ci alone waits for nothing."""
     for it in every_job(chain, after):
         yield replace(it, seconds=max(round(seconds.get(it.name, it.seconds)), 1))
 
@@ -75,8 +77,11 @@ def every_job(chain: Path | None, after: int | None = None) -> Iterator[Job]:
         # Without RT_JOBS a check has two processes while no other of its run waits. Each run takes what the other keeps.
         alone = replace(job(CHAIN, "rt", "ci"), seconds=2400, cores=1000, limit=HOURS, folder=str(chain))
         yield replace(alone, counts=counts.of_status, env={"RT_JOBS": ""})
-        proofs = replace(proofs, words=("nice", "-n", "5", *proofs.words), cores=0, env={"RT_JOBS": str(beside_chain())})
-    yield replace(proofs, words=once_ended(after, proofs.words))
+        words = once_ended(after, with_priority(BESIDE_CHAIN, proofs.words))
+        proofs = replace(proofs, words=words, cores=0, env={"RT_JOBS": str(beside_chain())})
+    elif after is not None:
+        proofs = replace(proofs, words=with_priority(BESIDE_TESTS, proofs.words))
+    yield proofs
     library = script("library", str(TOP / "tools/static-library"), "ffi", str(logs / f"{PROOFS}.log"))
     yield replace(library, counts=counts.of_status, cores=0, limit=HOURS, folder=str(room))
     # So are the examples run over it, which wait for a core as little.
@@ -157,7 +162,7 @@ def arguments(words: list[str]) -> argparse.Namespace:
     parser.add_argument("--no-skips", action="store_true", help="a skip is a failure")
     many = f"how many crates are proved at a time, and then how many jobs run ({lanes()} and {cores(SMALL)})"
     parser.add_argument("--jobs", type=int, metavar="N", help=many)
-    parser.add_argument("--after", type=int, metavar="PID", help="only the longest chain of crates is proved until this process has ended")
+    parser.add_argument("--after", type=int, metavar="PID", help="until this process has ended leave it processors: prove the longest chain alone, or all below it in priority")
     options = parser.parse_args(words)
     if options.jobs is not None and options.jobs < 1:
         parser.error("--jobs wants a number above 0")

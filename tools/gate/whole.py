@@ -1,5 +1,5 @@
-""".ci/run: the gate. It installs what tests need, and then runs ./test and ./prove, each without a skip. The longest chain of proofs begins beside
-./test, since it leaves cores idle in its first minutes."""
+""".ci/run: the gate. It installs what tests need, and then runs ./test and ./prove, each without a skip. The proofs begin beside
+./test, since their first minutes are one crate after another, which leaves cores idle."""
 
 from __future__ import annotations
 

@@ -1,5 +1,6 @@
 """What ./prove runs, and in which order."""
 
+import os
 import subprocess
 import tempfile
 import unittest
@@ -7,7 +8,7 @@ from pathlib import Path
 from unittest import mock
 
 from tools.gate import proving, tree
-from tools.gate.environment import TOP, lanes
+from tools.gate.environment import TOP, lanes, with_priority
 from tools.gate.proofs import read_crates
 
 
@@ -22,12 +23,18 @@ class Order(unittest.TestCase):
         with subprocess.Popen(("sleep", "0.5")) as other:
             chain, proofs = [it for it in proving.every_job(Path("chain"), after=other.pid) if it.part == proving.PROOFS]
             self.assertEqual((chain.words, proofs.words[-2:]), (("rt", "ci"), ("rt", "ci")))
-            waits = subprocess.Popen((*proofs.words[: proofs.words.index("nice")], "echo", "begun"), stdout=subprocess.PIPE, text=True)
+            waits = subprocess.Popen((*proofs.words[:-2], "echo", "begun"), stdout=subprocess.PIPE, text=True)
             self.assertIsNone(waits.poll())
         self.assertEqual(waits.communicate(timeout=60)[0], "begun\n")
 
     def test_all_is_proved_at_once_if_nothing_is_kept(self) -> None:
-        self.assertEqual([(it.name, it.after) for it in proving.every_job(None) if it.part == proving.PROOFS], [(proving.PROOFS, ())])
+        for after in (None, os.getpid()):
+            (proofs,) = [it for it in proving.every_job(None, after) if it.part == proving.PROOFS]
+            self.assertEqual((proofs.name, proofs.after, proofs.env), (proving.PROOFS, (), {}))
+
+    def test_all_is_proved_below_a_process_that_it_comes_after(self) -> None:
+        proofs = [next(it.words for it in proving.every_job(None, after) if it.name == proving.PROOFS) for after in (None, os.getpid())]
+        self.assertEqual(proofs, [("rt", "ci"), with_priority(proving.BESIDE_TESTS, ("rt", "ci"))])
 
     def test_the_library_is_tried_beside_the_proofs_and_before_it_is_moved(self) -> None:
         those = {it.name: it for it in proving.every_job(None)}
