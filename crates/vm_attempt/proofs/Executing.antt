@@ -1,31 +1,25 @@
 -- No run of an attempt is handed out twice to be executed.
-use Rattle.std.proofs.Common.{◌≡◌, ◌≢◌, ◌⊎◌, ℕ, zero, suc, ◌+◌, ◌≤◌, ◌++◌, Bool, true, false, cond, List, [], ◌∷◌, Option, Some, None, Result, Ok, Err, refl, sym, ap, ◌∙◌, subst, ⊎_elim, arith, Global}
-use Rattle.std.specs.Prelude.{◌==◌, if◌then◌else◌, nat_le, unwrap_or}
+use Rattle.std.proofs.Common.{◌≡◌, ◌≢◌, ◌⊎◌, ℕ, zero, suc, ◌+◌, ◌≤◌, Bool, true, false, cond, List, [], Option, Some, None, Result, Ok, Err, refl, sym, ap, ◌∙◌, subst, ⊎_elim, arith, Global}
+use Rattle.std.specs.Prelude.{nat_le, unwrap_or}
 use Rattle.std.specs.declared.alloc.AllocError.{AllocError}
 use Rattle.await_trees.specs.declared.handle.NotificationHandle.{NotificationHandle}
 use Rattle.journal_protocol.specs.Error.{Error}
-use Rattle.journal_protocol.specs.NamedFault.{NamedFault}
 use Rattle.journal_protocol.specs.Version.{Version}
 use Rattle.journal_protocol.specs.Errors.{no_memory}
-use Rattle.journal_protocol.specs.Types.{type_number}
-use Rattle.journal_protocol.specs.RawMessage.{RawMessage}
 use Rattle.vm_types.specs.declared.options.VMOptions.{VMOptions}
 use Rattle.vm_machine.specs.declared.machine.Machine.{Machine}
 use Rattle.vm_machine.specs.declared.phase.Phase.{Phase}
 use Rattle.vm_machine.specs.declared.phase.Phase.TheVariants.{WaitingStart, WaitingReplayEntries, Replaying, Processing, Closed}
 use Rattle.vm_machine.specs.Inputs.{input_step}
 use Rattle.vm_machine.specs.Making.{fresh}
-use Rattle.vm_machine.specs.Outcomes.{Failed, IsStarved, Outcome, called, settled}
+use Rattle.vm_machine.specs.Outcomes.{Failed, IsStarved, called}
 use Rattle.vm_machine.specs.Phases.{is_running}
-use Rattle.journal_entries.specs.Frames.{Garbage, Rest, Tail, frames_of}
 use Rattle.invocation_vm.specs.Making.{made}
-use Rattle.invocation_vm.specs.Views.{StarvesAmong, View, after_closing, after_input, all_received, messages_in_bytes, consumed, has_failed, left_by, left_over, received, spoiled}
+use Rattle.invocation_vm.specs.Views.{StarvesAmong, View, after_closing, after_input, messages_in_bytes}
 use Rattle.vm_model.specs.Calls.{Meaning}
-use Rattle.vm_attempt.specs.Blames.{fault_among}
 use Rattle.vm_model.specs.Fixed.{Fixed}
 use Rattle.vm_attempt.specs.Courses.{OneCall, Leads}
 use Rattle.vm_attempt.specs.Courses.OneCall.{Closing, Feeding, Stepping, Taking, Telling}
-use Rattle.journal_entries.specs.JournalFrames.{is_acknowledgement, is_command_frame, is_notification}
 use Rattle.vm_steps.specs.declared.progress.Progress.{Progress}
 use Rattle.vm_steps.specs.declared.progress.Progress.TheVariants as progress
 use Rattle.vm_steps.specs.declared.progress.Reply.{Reply}
@@ -34,86 +28,35 @@ use Rattle.vm_steps.specs.Record.{Record}
 use Rattle.vm_steps.specs.Stepping.{Advances, MakesStep, CloseDoes, InputIsClosed, FeedDoes, FeedsPiece, LacksMemory, InputIsRead, StepAt, StepDoes, StepFrom, StepUnless, Takes, fresh_record, future_in, with_piece_kept, progress_of, replied, step_asked, output_taken, with_vm}
 use Rattle.vm_attempt.specs.Told.{IsLive}
 use Rattle.vm_attempt.proofs.Advanced.{done_of}
-use Rattle.vm_attempt.proofs.Ahead.{HandsOut, HasRunOf, LivesOn, ahead, fewer_equal, fewer_same, fewer_then}
-use Rattle.vm_attempt.proofs.Arriving.{failed_receives}
-use Rattle.vm_attempt.proofs.Blamed.{closing_at, closing_not, none_some, spoils, spoils_not}
-use Rattle.vm_attempt.proofs.Blaming.{Fits, message_fits}
-use Rattle.vm_attempt.proofs.Entries.{message_by, receives_by}
+use Rattle.vm_attempt.proofs.Ahead.{Fewer, HandsOut, HasRunOf, LivesOn, ahead, fewer_equal, fewer_same, fewer_then}
 use Rattle.vm_attempt.proofs.Erring.{Opens, called_failed, input_opens}
 use Rattle.vm_attempt.proofs.Finishing.{finish_lives}
 use Rattle.vm_attempt.proofs.Late.{closes_over, feeds_over}
+use Rattle.vm_attempt.proofs.Living as still
 use Rattle.vm_attempt.proofs.Sending.{IsLeft, step_leaves}
 
 -- ---- what comes to a machine
 
 lives_same : (v : Machine) → LivesOn v v
-lives_same v none = (none, fewer_same v)
+lives_same = still.lives_same Fewer fewer_same fewer_then fewer_equal
 
 lives_then : (u v w : Machine) → LivesOn u v → LivesOn v w → LivesOn u w
-lives_then u v w a b none =
-    let last = b none in
-    let first = a last.0 in
-    (first.0, fewer_then u v w first.1 last.1)
+lives_then = still.lives_then Fewer fewer_same fewer_then fewer_equal
 
 -- a machine that has failed doesn't live on
 failed_lives : (e : Error) (v w : Machine) → w.failure ≡ Some e → LivesOn v w
-failed_lives e v w is none = none_some e (sym none ∙ is)
+failed_lives e v w is = still.failed_lives e w is
 
 starved_lives : (e : Error) (reached v w : Machine) → IsStarved reached e w → LivesOn v w
 starved_lives e reached v w s = failed_lives (unwrap_or reached.failure no_memory) v w s.failure
 
--- a frame comes
-one_lives : (raw : RawMessage) (v : Machine) → LivesOn v (received raw v)
-one_lives raw v = by_failure v.failure refl
-  where
-    o : Outcome Unit
-    o = message_by raw v.phase v (type_number raw.ty == 1) (is_command_frame raw) (is_notification raw) (is_acknowledgement raw)
-
-    by_fault : (f : Option NamedFault) → v.failure ≡ None → Fits f v o → LivesOn v (left_by (settled o))
-    by_fault None live (w, done, same, runs) = subst (λ (x : Outcome Unit). LivesOn v (left_by (settled x))) (sym done) (λ none. (live, fewer_equal v w runs.0 runs.1))
-    by_fault (Some why) live refuses = subst (λ (x : Outcome Unit). LivesOn v (left_by (settled x))) (sym refuses) (λ none. none_some _ (sym none))
-
-    by_failure : (f : Option Error) → v.failure ≡ f → LivesOn v (received raw v)
-    by_failure (Some e) is = subst (LivesOn v) (sym (failed_receives e v raw is)) (lives_same v)
-    by_failure None live = subst (LivesOn v) (sym (receives_by v raw live)) (by_fault (fault_among v.proposals v.phase raw) live (message_fits raw v.phase v (type_number raw.ty == 1) (is_command_frame raw) (is_notification raw) (is_acknowledgement raw)))
-
-all_live : (raws : List RawMessage) (v : Machine) → LivesOn v (all_received raws v)
-all_live [] v = lives_same v
-all_live (raw ∷ raws) v = lives_then v (received raw v) (all_received raws (received raw v)) (one_lives raw v) (all_live raws (received raw v))
-
-spoiled_lives : (v : Machine) → LivesOn v (spoiled v)
-spoiled_lives v = by_failure v.failure refl
-  where
-    by_failure : (f : Option Error) → v.failure ≡ f → LivesOn v (spoiled v)
-    by_failure (Some e) is = subst (LivesOn v) (sym (spoils_not v e is)) (lives_same v)
-    by_failure None live = failed_lives _ v (spoiled v) (spoils v live)
-
-left_lives : (t : Tail) (v : Machine) → LivesOn v (left_over t v).machine
-left_lives (Rest bytes) v = lives_same v
-left_lives Garbage v = spoiled_lives v
-
 -- a piece comes
 input_lives : (v : View) (bytes : List ℕ) → LivesOn v.machine (after_input v bytes).machine
-input_lives v bytes = by_test (has_failed v.machine)
-  where
-    by_test : (b : Bool) → LivesOn v.machine (if b then v else consumed (frames_of (v.undecoded ++ bytes)) v.machine).machine
-    by_test true = lives_same v.machine
-    by_test false =
-        let f = frames_of (v.undecoded ++ bytes) in
-        let w = all_received f.0 v.machine in
-        lives_then v.machine w (left_over f.1 w).machine (all_live f.0 v.machine) (left_lives f.1 w)
+input_lives = still.input_lives Fewer fewer_same fewer_then fewer_equal
 
 -- the input is closed
 closing_lives : (v : View) → LivesOn v.machine (after_closing v).machine
-closing_lives v = by_failure v.machine.failure refl v.machine.phase refl
-  where
-    by_failure : (f : Option Error) → v.machine.failure ≡ f → (ph : Phase) → v.machine.phase ≡ ph → LivesOn v.machine (after_closing v).machine
-    by_failure (Some e) is ph at = subst (LivesOn v.machine) (closing_not v e is) (lives_same v.machine)
-    by_failure None live WaitingStart at = subst (LivesOn v.machine) (closing_at v live WaitingStart at) (λ none. none_some _ (sym none))
-    by_failure None live WaitingReplayEntries at = subst (LivesOn v.machine) (closing_at v live WaitingReplayEntries at) (λ none. none_some _ (sym none))
-    by_failure None live Replaying at = subst (LivesOn v.machine) (closing_at v live Replaying at) (λ none. (live, fewer_same v.machine))
-    by_failure None live Processing at = subst (LivesOn v.machine) (closing_at v live Processing at) (λ none. (live, fewer_same v.machine))
-    by_failure None live Closed at = subst (LivesOn v.machine) (closing_at v live Closed at) (λ none. (live, fewer_same v.machine))
+closing_lives = still.closing_lives Fewer fewer_same fewer_then fewer_equal
 
 -- ---- the calls of an attempt
 

@@ -336,7 +336,7 @@ module _ (handle : NotificationHandle) (exit : RunExitResult) (policy : RetryPol
 -- ---- one proposal more
 
 -- what was received, with these proposals added
-abbrev and_proposed : Heard → List ProposeRunCompletion → Heard
+abbrev pub and_proposed : Heard → List ProposeRunCompletion → Heard
 and_proposed fed more = record { pieces = fed.pieces; proposed = fed.proposed ++ more }
 
 pub acknowledged_more : (version : Version) (ps more : List ProposeRunCompletion) → acknowledged_from version (ps ++ more) ≡ acknowledged_from version ps ++ acknowledged_from version more
@@ -361,7 +361,7 @@ proposed_is handle id result v = by_test (is_from_v7 v.version)
     by_test true = refl
     by_test false = λ i. record u { proposals = sym (append-nil u.proposals) i; output = u.output ++ encoding (proposal id result) ∷ [] }
 
-abbrev journal_as : (fed : Heard) (more : List ProposeRunCompletion) → Journal fed → Journal (and_proposed fed more)
+abbrev pub journal_as : (fed : Heard) (more : List ProposeRunCompletion) → Journal fed → Journal (and_proposed fed more)
 journal_as fed more j = record {
   first_frame = j.first_frame;
   entries = j.entries;

@@ -40,6 +40,7 @@ pub mod Blamed
 pub mod Erring
 pub mod Late
 pub mod Sleeping
+pub mod Living
 pub mod Executing
 pub mod Failing
 pub mod Ending

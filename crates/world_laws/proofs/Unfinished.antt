@@ -50,7 +50,7 @@ use Rattle.vm_attempt.specs.Told.{BeforeInput, Comes, HandlerRuns, HasCome, IsKe
 use Rattle.vm_attempt.proofs.Advanced.{made_kept}
 use Rattle.vm_attempt.proofs.Coming.{close_comes, feed_comes, made_comes, step_comes, take_comes}
 use Rattle.vm_attempt.proofs.Executing.{ExecutesNone, call_keeps, step_hands}
-use Rattle.vm_attempt.proofs.Finishing.{acknowledged_more, finish_comes, finish_under, finished}
+use Rattle.vm_attempt.proofs.Finishing.{acknowledged_more, and_proposed, finish_comes, finish_under, finished, journal_as}
 use Rattle.vm_attempt.proofs.Pieces.{bytes_behind, more_frames}
 use Rattle.vm_attempt.proofs.Proposed.{arriving_append, arriving_more, arriving_notified}
 use Rattle.vm_attempt.proofs.Replayed.{head_same, tail_same}
@@ -131,31 +131,8 @@ no_processing fixed fed v (inr b) at =
 abbrev as_heard : List Fed → List ProposeRunCompletion → Heard
 as_heard pieces proposed = record { pieces = pieces; proposed = proposed }
 
--- with more proposals
-abbrev and_more : Heard → List ProposeRunCompletion → Heard
-and_more fed more = as_heard fed.pieces (fed.proposed ++ more)
-
-abbrev journal_as : (fed : Heard) (more : List ProposeRunCompletion) → Journal fed → Journal (and_more fed more)
-journal_as fed more j = record {
-  first_frame = j.first_frame;
-  entries = j.entries;
-  others = j.others;
-  frames = j.frames;
-  start = j.start;
-  reads_start = j.reads_start;
-  count = j.count;
-  none_acknowledge = j.none_acknowledge;
-  state = j.state;
-  reads_state = j.reads_state;
-  first = j.first;
-  rest = j.rest;
-  commands = j.commands;
-  input = j.input;
-  reads_input = j.reads_input;
-}
-
 -- what is asked was so before the proposal, if each acknowledgement that came found its own
-premises_less : (fixed : Fixed) (fed : Heard) (more : List ProposeRunCompletion) → ((j : Journal fed) → AllFound fed.proposed (j.entries ++ j.others)) → Premises fixed (and_more fed more) → Premises fixed fed
+premises_less : (fixed : Fixed) (fed : Heard) (more : List ProposeRunCompletion) → ((j : Journal fed) → AllFound fed.proposed (j.entries ++ j.others)) → Premises fixed (and_proposed fed more) → Premises fixed fed
 premises_less fixed fed more found p = record {
   replays = p.replays;
   queues = p.queues;
@@ -178,7 +155,7 @@ module _ (fixed : Fixed) (handle : NotificationHandle) (exit : RunExitResult) (p
   noted_same (Some e) w = refl
   noted_same None w = refl
 
-  more_less : (ps : List ProposeRunCompletion) → old.vm.machine.failure ≡ None → old.vm.machine.phase ≡ Processing → Premises fixed (and_more before ps) → Premises fixed before
+  more_less : (ps : List ProposeRunCompletion) → old.vm.machine.failure ≡ None → old.vm.machine.phase ≡ Processing → Premises fixed (and_proposed before ps) → Premises fixed before
   more_less ps live at p =
       ⊎_elim
       (λ (b : BeforeInput fixed before old.answers old.waiting old.taken old.vm). no_processing fixed before old.vm.machine (b.comes live) at)
@@ -189,9 +166,9 @@ module _ (fixed : Fixed) (handle : NotificationHandle) (exit : RunExitResult) (p
   completes_less (Err e) (w, does, is) p = subst (Premises fixed) (ap (heard fixed.version) is ∙ noted_same old.vm.machine.failure w) p
   completes_less (Ok t) (w, does, is) p =
       let ps = newly_proposed old.vm.machine w.machine in
-      let same : now ≡ and_more before (acknowledged_from fixed.version ps) =
+      let same : now ≡ and_proposed before (acknowledged_from fixed.version ps) =
       ap (heard fixed.version) is ∙ ap (as_heard old.fed) (acknowledged_more fixed.version old.proposed ps) in
-      let here : Premises fixed (and_more before (acknowledged_from fixed.version ps)) = subst (Premises fixed) same p in
+      let here : Premises fixed (and_proposed before (acknowledged_from fixed.version ps)) = subst (Premises fixed) same p in
       let x = none_or handle exit policy old.vm.machine t w.machine does.0 in
       ⊎_elim
       (λ (none : ps ≡ []).

@@ -47,14 +47,13 @@ use Rattle.vm_machine.specs.declared.phase.Phase.{Phase}
 use Rattle.vm_machine.specs.declared.phase.Phase.TheVariants.{WaitingStart, WaitingReplayEntries, Replaying, Processing, Closed}
 use Rattle.vm_machine.specs.Commands.{entered, knows_next, phase_after, popped, popped_from}
 use Rattle.vm_machine.specs.Inputs.{input_at, input_by, input_counted, input_numbered, input_past, input_read, input_step}
-use Rattle.vm_machine.specs.Outcomes.{CalledBy, IsStarved, Outcome, Done, Failed, ◌>>>◌, about_last, called, settled}
+use Rattle.vm_machine.specs.Outcomes.{CalledBy, IsStarved, Outcome, Done, Failed, ◌>>>◌, about_last, called}
 use Rattle.vm_machine.specs.Phases.{is_running}
 use Rattle.vm_machine.specs.Proposals.{Proposes as MayCome, Settled, SettledAt, SettledUnless, SettlesAs, proposal_fault, proposed, run_at, without_run}
 use Rattle.vm_machine.specs.Skips.{counters_past, skipped}
 use Rattle.vm_types.specs.Options.{skips_replay}
 use Rattle.vm_machine.proofs.Calling.{answers_first, called_from}
-use Rattle.journal_entries.specs.Frames.{Garbage, Rest, Tail, frames_of}
-use Rattle.invocation_vm.specs.Views.{StarvesAmong, View, after_closing, after_input, all_received, messages_in_bytes, consumed, has_failed, left_by, left_over, received, spoiled}
+use Rattle.invocation_vm.specs.Views.{StarvesAmong, View, after_closing, after_input, messages_in_bytes}
 use Rattle.invocation_vm.proofs.Feeds.{among_output}
 use Rattle.vm_model.specs.Calls.{Meaning}
 use Rattle.vm_model.specs.Carried.{is_id_among}
@@ -71,15 +70,11 @@ use Rattle.vm_steps.specs.Heard.{proposals_among, proposed_by}
 use Rattle.vm_steps.specs.Record.{Record}
 use Rattle.vm_steps.specs.Stepping.{Advances, MakesStep, CloseDoes, InputIsClosed, FeedDoes, FeedsPiece, FinishDoes, CompletesRun, LacksMemory, InputIsRead, StepAt, StepDoes, StepFrom, StepUnless, future_in, with_piece_kept, kept_at, newly_proposed, failed_run_noted, noted_at, replied, step_asked, output_taken, with_vm}
 use Rattle.vm_steps.specs.Steps.{StepMade}
-use Rattle.vm_attempt.specs.Blames.{fault_among}
-use Rattle.journal_entries.specs.JournalFrames.{is_acknowledgement, is_command_frame, is_notification}
 use Rattle.vm_attempt.specs.Told.{IsLive, Quiet}
 use Rattle.vm_attempt.proofs.Advanced.{done_of, failed_quiet, input_silent}
-use Rattle.vm_attempt.proofs.Arriving.{failed_receives}
-use Rattle.vm_attempt.proofs.Blamed.{closing_at, closing_not, none_some, spoils, spoils_not}
-use Rattle.vm_attempt.proofs.Blaming.{Fits as FitsFault, message_fits}
-use Rattle.vm_attempt.proofs.Entries.{message_by, receives_by}
+use Rattle.vm_attempt.proofs.Blamed.{none_some}
 use Rattle.vm_attempt.proofs.Erring.{called_failed}
+use Rattle.vm_attempt.proofs.Living as still
 use Rattle.vm_attempt.proofs.Numbers.{step_numbers}
 use Rattle.vm_attempt.proofs.Quiet.{Silent, closing_quiet, forms_append, input_quiet, map_append, proposes_nothing}
 use Rattle.vm_attempt.proofs.Sending.{IsLeft, Leaves, Sends, StandsBy, step_leaves}
@@ -117,6 +112,10 @@ pub record Sound (ns : List Notification) (cs : List RawMessage) (ws : List Writ
   pub below : v.failure ≡ None → AreBelow (next_of v) (proposed_ids ws)
   pub pending : v.failure ≡ None → ArePending (next_of v) ns (cs ++ flat_map command_in ws) (proposed_ids ws) (run_ids v.runs)
   pub early : v.failure ≡ None → answers ≡ [] → (run_ids v.runs ≡ []) × (proposed_ids ws ≡ [])
+
+-- the pending runs are the same, and the next id hasn't fallen
+abbrev RunsStand : Machine → Machine → Type 0
+RunsStand v w = (SameRuns v w) × (next_of v ≤ next_of w)
 
 -- a machine that is alive was alive before, with the same pending runs, and the next id hasn't fallen
 abbrev pub LivesOn : Machine → Machine → Type 0
@@ -260,71 +259,27 @@ same_number n = omega arith
 more_than : (a b c : ℕ) → a ≤ b → b ≤ c → a ≤ c
 more_than a b c h k = omega (arith, h, k)
 
-lives_same : (v : Machine) → LivesOn v v
-lives_same v none = (none, refl, same_number (next_of v))
+stand_same : (v : Machine) → RunsStand v v
+stand_same v = (refl, same_number (next_of v))
 
-lives_then : (u v w : Machine) → LivesOn u v → LivesOn v w → LivesOn u w
-lives_then u v w a b none =
-    let last = b none in
-    let first = a last.0 in
-    (first.0, last.1 ∙ first.1, more_than (next_of u) (next_of v) (next_of w) first.2 last.2)
-
-failed_lives : (e : Error) (v w : Machine) → w.failure ≡ Some e → LivesOn v w
-failed_lives e v w is none = none_some e (sym none ∙ is)
+stand_then : (u v w : Machine) → RunsStand u v → RunsStand v w → RunsStand u w
+stand_then u v w first last = (last.0 ∙ first.0, more_than (next_of u) (next_of v) (next_of w) first.1 last.1)
 
 -- the runs and the counters are the same
-lives_alike : (v w : Machine) → v.failure ≡ None → w.runs ≡ v.runs → w.counters ≡ v.counters → LivesOn v w
-lives_alike v w live runs counters none = (live, ap run_ids runs, subst (λ n. next_of v ≤ n) (ap (λ c. c.completion) (sym counters)) (same_number (next_of v)))
+stand_alike : (v w : Machine) → w.runs ≡ v.runs → w.counters ≡ v.counters → RunsStand v w
+stand_alike v w runs counters = (ap run_ids runs, subst (λ n. next_of v ≤ n) (ap (λ c. c.completion) (sym counters)) (same_number (next_of v)))
 
-one_lives : (raw : RawMessage) (v : Machine) → LivesOn v (received raw v)
-one_lives raw v = by_failure v.failure refl
-  where
-    o : Outcome Unit
-    o = message_by raw v.phase v (type_number raw.ty == 1) (is_command_frame raw) (is_notification raw) (is_acknowledgement raw)
+lives_same : (v : Machine) → LivesOn v v
+lives_same = still.lives_same RunsStand stand_same stand_then stand_alike
 
-    by_fault : (f : Option NamedFault) → v.failure ≡ None → FitsFault f v o → LivesOn v (left_by (settled o))
-    by_fault None live (w, done, same, runs) = subst (λ (x : Outcome Unit). LivesOn v (left_by (settled x))) (sym done) (lives_alike v w live runs.0 runs.1)
-    by_fault (Some why) live refuses = subst (λ (x : Outcome Unit). LivesOn v (left_by (settled x))) (sym refuses) (λ none. none_some _ (sym none))
-
-    by_failure : (f : Option Error) → v.failure ≡ f → LivesOn v (received raw v)
-    by_failure (Some e) is = subst (LivesOn v) (sym (failed_receives e v raw is)) (lives_same v)
-    by_failure None live = subst (LivesOn v) (sym (receives_by v raw live)) (by_fault (fault_among v.proposals v.phase raw) live (message_fits raw v.phase v (type_number raw.ty == 1) (is_command_frame raw) (is_notification raw) (is_acknowledgement raw)))
-
-all_live : (raws : List RawMessage) (v : Machine) → LivesOn v (all_received raws v)
-all_live [] v = lives_same v
-all_live (raw ∷ raws) v = lives_then v (received raw v) (all_received raws (received raw v)) (one_lives raw v) (all_live raws (received raw v))
-
-spoiled_lives : (v : Machine) → LivesOn v (spoiled v)
-spoiled_lives v = by_failure v.failure refl
-  where
-    by_failure : (f : Option Error) → v.failure ≡ f → LivesOn v (spoiled v)
-    by_failure (Some e) is = subst (LivesOn v) (sym (spoils_not v e is)) (lives_same v)
-    by_failure None live = failed_lives _ v (spoiled v) (spoils v live)
-
-left_lives : (t : Tail) (v : Machine) → LivesOn v (left_over t v).machine
-left_lives (Rest bytes) v = lives_same v
-left_lives Garbage v = spoiled_lives v
+failed_lives : (e : Error) (v w : Machine) → w.failure ≡ Some e → LivesOn v w
+failed_lives e v w is = still.failed_lives e w is
 
 input_lives : (v : View) (bytes : List ℕ) → LivesOn v.machine (after_input v bytes).machine
-input_lives v bytes = by_test (has_failed v.machine)
-  where
-    by_test : (b : Bool) → LivesOn v.machine (if b then v else consumed (frames_of (v.undecoded ++ bytes)) v.machine).machine
-    by_test true = lives_same v.machine
-    by_test false =
-        let f = frames_of (v.undecoded ++ bytes) in
-        let w = all_received f.0 v.machine in
-        lives_then v.machine w (left_over f.1 w).machine (all_live f.0 v.machine) (left_lives f.1 w)
+input_lives = still.input_lives RunsStand stand_same stand_then stand_alike
 
 closing_lives : (v : View) → LivesOn v.machine (after_closing v).machine
-closing_lives v = by_failure v.machine.failure refl v.machine.phase refl
-  where
-    by_failure : (f : Option Error) → v.machine.failure ≡ f → (ph : Phase) → v.machine.phase ≡ ph → LivesOn v.machine (after_closing v).machine
-    by_failure (Some e) is ph at = subst (LivesOn v.machine) (closing_not v e is) (lives_same v.machine)
-    by_failure None live WaitingStart at = subst (LivesOn v.machine) (closing_at v live WaitingStart at) (λ none. none_some _ (sym none))
-    by_failure None live WaitingReplayEntries at = subst (LivesOn v.machine) (closing_at v live WaitingReplayEntries at) (λ none. none_some _ (sym none))
-    by_failure None live Replaying at = subst (LivesOn v.machine) (closing_at v live Replaying at) (λ none. (live, refl, same_number (next_of v.machine)))
-    by_failure None live Processing at = subst (LivesOn v.machine) (closing_at v live Processing at) (λ none. (live, refl, same_number (next_of v.machine)))
-    by_failure None live Closed at = subst (LivesOn v.machine) (closing_at v live Closed at) (λ none. (live, refl, same_number (next_of v.machine)))
+closing_lives = still.closing_lives RunsStand stand_same stand_then stand_alike
 
 among_lives : (raws : List RawMessage) (v w : Machine) → StarvesAmong raws v w → LivesOn v w
 among_lives raws v w s = failed_lives _ v w s.starved.failure
