@@ -7,10 +7,10 @@ use Rattle.journal_protocol.specs.Version.{Version}
 use Rattle.vm_types.specs.Options.{default_options}
 use Rattle.vm_types.specs.declared.options.VMOptions.{VMOptions}
 use Rattle.invocation_vm.specs.Making.{made}
-use Rattle.vm_steps.specs.Record.{AttemptView, Record}
-use Rattle.vm_steps.specs.Stepping.{StepFunction, MakesAttempt, StepDoes, fresh_record}
-use Rattle.vm_steps.specs.declared.progress.Progress.{Progress}
-use Rattle.vm_steps.specs.declared.progress.Progress.TheVariants as progress
+use Rattle.vm_attempt.specs.Record.{AttemptView, Record}
+use Rattle.vm_attempt.specs.Stepping.{StepFunction, MakesAttempt, StepDoes, fresh_record}
+use Rattle.vm_attempt.specs.declared.progress.Progress.{Progress}
+use Rattle.vm_attempt.specs.declared.progress.Progress.TheVariants as progress
 use Rattle.vm_attempt.specs.Told.{IsKeptUnder}
 use Rattle.vm_attempt.proofs.Advanced.{kept_told, made_kept}
 use Rattle.vm_attempt.proofs.Under.{close_under, feed_under, step_under}

@@ -10,11 +10,11 @@ use Rattle.journal_protocol.specs.Version.{Version}
 use Rattle.vm_types.specs.Options.{default_options}
 use Rattle.vm_parts.specs.Outboxes.{WholeFrames}
 use Rattle.invocation_vm.specs.Making.{made}
-use Rattle.vm_steps.specs.Record.{Record, heard}
-use Rattle.vm_steps.specs.Stepping.{StepFunction, fresh_record, FeedDoes, CloseDoes, StepDoes}
+use Rattle.vm_attempt.specs.Record.{Record, heard}
+use Rattle.vm_attempt.specs.Stepping.{StepFunction, fresh_record, FeedDoes, CloseDoes, StepDoes}
 use Rattle.vm_attempt.specs.Told.{AnswersAreTold, NoneHasTwo}
-use Rattle.vm_steps.specs.declared.progress.Progress.{Progress}
-use Rattle.vm_steps.specs.declared.progress.Progress.TheVariants as progress
+use Rattle.vm_attempt.specs.declared.progress.Progress.{Progress}
+use Rattle.vm_attempt.specs.declared.progress.Progress.TheVariants as progress
 use Rattle.program_vmrun.specs.declared.run_end.AttemptEnd.{AttemptEnd}
 use Rattle.program_vmrun.specs.declared.run_end.AttemptEnd.TheVariants as attempt_end
 use Rattle.program_vmrun.specs.declared.run_end.Refusal.{Refusal}

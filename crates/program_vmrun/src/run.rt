@@ -3,8 +3,8 @@ ghost use Rattle.std.specs.Prelude.{◌≡◌, ◌↔◌, ◌≢◌, IfErr, IfOk
 ghost use Rattle.std.specs.Io.KnownBytes.{IsAtEnd};
 ghost use Rattle.journal_protocol.specs.Error.{Error};
 ghost use Rattle.invocation_vm.specs.Making.{IsSupported, version_in};
-ghost use Rattle.vm_steps.specs.Stepping.{StepDoes};
-ghost use Rattle.vm_steps.specs.declared.progress.Progress.{Progress};
+ghost use Rattle.vm_attempt.specs.Stepping.{StepDoes};
+ghost use Rattle.vm_attempt.specs.declared.progress.Progress.{Progress};
 ghost use Rattle.program_vmrun.specs.Runs.{SendsWhole, end_after, IsFed, Drives, IsDriven, ServesAnew, AttemptSays};
 ghost use Rattle.handlers.specs.Named.{step_named};
 ghost use Rattle.program_runs.specs.declared.run_end.RunEnd.TheVariants.{Refused};
@@ -17,8 +17,7 @@ use invocation_vm::version_named;
 use journal_protocol::Version;
 use program_runs::streams::{Sink, Source};
 use std::alloc::{AllocError, Global};
-use vm_attempt::Attempt;
-use vm_steps::Progress;
+use vm_attempt::{Attempt, Progress};
 use vm_types::{Handler, VMOptions};
 
 /// Makes a step. Returns how the attempt ends, if it is the last one.

@@ -37,7 +37,7 @@ use Rattle.journal_entries.specs.Journal.{Entry, Recorded, Notified, input_read_
 use Rattle.vm_model.specs.Moves.{Point, after, longer, moved, next, start as began, supplied}
 use Rattle.vm_attempt.specs.Blames.{IsHonest}
 use Rattle.vm_attempt.proofs.Honest.{honestly_fed}
-use Rattle.vm_steps.specs.Heard.{Heard}
+use Rattle.vm_attempt.specs.Heard.{Heard}
 use Rattle.vm_attempt.specs.Honest.{FeedsHonestly, frame_bytes, honest_frames}
 use Rattle.vm_model.specs.Setups.{setup_with}
 use Rattle.vm_model.specs.Fixed.{fixed_by}

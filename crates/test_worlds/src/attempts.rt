@@ -13,8 +13,7 @@ use test_support::frames::{
     OUTPUT_EMPTY, SIGNAL_17, SLEEP_TO_1000, SLEEP_TO_2024, START_0, START_1, START_2, START_3,
     SUSPENSION_ON_1, TYPE_MISMATCH, UNCOMPLETED,
 };
-use vm_attempt::Attempt;
-use vm_steps::Progress;
+use vm_attempt::{Attempt, Progress};
 use vm_types::Handler;
 
 /// One thing that happens to an attempt, and its answer.

@@ -7,8 +7,7 @@ use crate::whole_runs::{Ending, Replay, Run};
 use std::alloc::{AllocError, Global};
 use std::process::Abort;
 use std::test::Fail;
-use vm_attempt::Attempt;
-use vm_steps::Progress;
+use vm_attempt::{Attempt, Progress};
 use vm_types::Handler;
 
 /// Feeds these pieces, and drives the attempt after each. It is ready as soon as the known entries are there.

@@ -5,8 +5,7 @@ use bytes::Bytes;
 use std::alloc::Global;
 use std::test::Fail;
 use test_support::headers::Headers;
-use vm_attempt::Attempt;
-use vm_steps::Progress;
+use vm_attempt::{Attempt, Progress};
 use vm_types::{Answer, AwaitingOnPolicy, Handler, VMOptions, VMResult, Value};
 
 /// An answer, as a row has it.

@@ -48,17 +48,17 @@ use Rattle.std.specs.List.{AllByRecursion}
 use Rattle.journal_protocol.specs.ProposeRunCompletion.{ProposeRunCompletion}
 use Rattle.journal_protocol.specs.Versions.{is_from_v7}
 use Rattle.vm_attempt.specs.Arrivals.{arriving, kept_after}
-use Rattle.vm_steps.specs.Heard.{acknowledged_from}
+use Rattle.vm_attempt.specs.Heard.{acknowledged_from}
 use Rattle.vm_attempt.proofs.Arriving.{arriving_alone, kept_none}
 use Rattle.vm_attempt.proofs.Proposed.{none_found, none_front}
-use Rattle.vm_steps.specs.Heard.{Heard}
-use Rattle.vm_steps.specs.declared.progress.Progress.{Progress}
-use Rattle.vm_steps.specs.declared.progress.Progress.TheVariants as progress
+use Rattle.vm_attempt.specs.Heard.{Heard}
+use Rattle.vm_attempt.specs.declared.progress.Progress.{Progress}
+use Rattle.vm_attempt.specs.declared.progress.Progress.TheVariants as progress
 use Rattle.vm_attempt.specs.Agreement.{Agrees, Aside}
 use Rattle.journal_entries.specs.JournalFrames.{commands_among, notifications_among, AcknowledgesNothing}
 use Rattle.vm_attempt.specs.Journals.{BeginsOrFails, HasAll, StillWaits, machine_fed, with_missing, setup_for}
-use Rattle.vm_steps.specs.Record.{Record, heard}
-use Rattle.vm_steps.specs.Stepping.{Advances, MakesStep, IfWaits, IsReplaying, LacksMemory, InputIsRead, StepAt, StepDoes, StepFrom, StepUnless, fresh_record}
+use Rattle.vm_attempt.specs.Record.{Record, heard}
+use Rattle.vm_attempt.specs.Stepping.{Advances, MakesStep, IfWaits, IsReplaying, LacksMemory, InputIsRead, StepAt, StepDoes, StepFrom, StepUnless, fresh_record}
 use Rattle.vm_parts.specs.Outboxes.{WholeFrames}
 use Rattle.vm_attempt.specs.Told.{AnswersAreTold, BeforeInput, Begun, Comes, IsAsleep, IsKept, IsLive, NothingWakes, Premises, Quiet, AnswersInReplay, HandlerRuns, AwaitWaits, StillAwaits, ToldBy, Wrote, arrivals, bytes_fed, frames_fed, start_state}
 use Rattle.vm_attempt.proofs.Beginning.{input_begins}

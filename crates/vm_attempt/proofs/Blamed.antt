@@ -20,11 +20,11 @@ use Rattle.journal_entries.specs.Frames.{Tail, Rest, Garbage, frames_of}
 use Rattle.invocation_vm.specs.Making.{made}
 use Rattle.invocation_vm.specs.Views.{StarvesAmong, View, after_closing, after_input, all_received, messages_in_bytes, consumed, left_by, left_over, spoiled}
 use Rattle.vm_model.specs.Calls.{Meaning}
-use Rattle.vm_steps.specs.Heard.{Heard, and_piece}
-use Rattle.vm_steps.specs.declared.progress.Fed.{Fed}
-use Rattle.vm_steps.specs.declared.progress.Progress.{Progress}
-use Rattle.vm_steps.specs.Record.{Record, Said, all_said, heard}
-use Rattle.vm_steps.specs.Stepping.{CloseDoes, InputIsClosed, FeedDoes, FeedsPiece, Takes, fresh_record, with_piece_kept, kept_at, with_vm}
+use Rattle.vm_attempt.specs.Heard.{Heard, and_piece}
+use Rattle.vm_attempt.specs.declared.progress.Fed.{Fed}
+use Rattle.vm_attempt.specs.declared.progress.Progress.{Progress}
+use Rattle.vm_attempt.specs.Record.{Record, Said, all_said, heard}
+use Rattle.vm_attempt.specs.Stepping.{CloseDoes, InputIsClosed, FeedDoes, FeedsPiece, Takes, fresh_record, with_piece_kept, kept_at, with_vm}
 use Rattle.vm_attempt.specs.Told.{BeforeInput, JournalCame, HasCome, bytes_fed, frames_fed}
 use Rattle.vm_attempt.specs.Blames.{Blame, BlamedAt, FailsAt, IsBlamed, LacksEntries, Place}
 use Rattle.vm_attempt.specs.Blames.Blame.{Memory, Frame, NoFrame, ClosedEarly, NoInput, NoSkip, Call, RunResult}

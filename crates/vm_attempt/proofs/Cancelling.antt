@@ -38,8 +38,8 @@ use Rattle.vm_model.specs.Histories.{Handed, Made}
 use Rattle.vm_model.specs.Refusals.{IsRefusedFor}
 use Rattle.vm_model.proofs.Cancelling.{Sent, cancelled_same, sends_unless}
 use Rattle.vm_attempt.specs.Agreement.{Answered, Aside, CallFollows, IsCutShort, CallRefused, MakesMany, MovesOn, command_frames, machine_at}
-use Rattle.vm_steps.specs.declared.progress.Reply.{Reply}
-use Rattle.vm_steps.specs.Steps.{Awaited, IfDone, await_reply}
+use Rattle.vm_attempt.specs.declared.progress.Reply.{Reply}
+use Rattle.vm_attempt.specs.Steps.{Awaited, IfDone, await_reply}
 use Rattle.vm_model.proofs.Parts.{taken_keeps}
 use Rattle.vm_attempt.proofs.Awaiting.{IsGathered, PartTo, part_to}
 use Rattle.vm_attempt.proofs.Behind.{answered_behind, either_behind, settled_done, settled_failed}

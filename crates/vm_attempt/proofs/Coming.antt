@@ -10,12 +10,12 @@ use Rattle.vm_machine.specs.Phases.{is_running}
 use Rattle.journal_entries.specs.Frames.{Rest}
 use Rattle.invocation_vm.specs.Making.{made}
 use Rattle.invocation_vm.specs.Views.{View}
-use Rattle.vm_steps.specs.Heard.{Heard}
-use Rattle.vm_steps.specs.declared.progress.Progress.{Progress}
-use Rattle.vm_steps.specs.declared.progress.Reply.{Reply}
-use Rattle.vm_steps.specs.declared.progress.Reply.TheVariants as reply
-use Rattle.vm_steps.specs.Record.{Record, heard}
-use Rattle.vm_steps.specs.Stepping.{MakesStep, CloseDoes, FeedDoes, StepDoes, Takes, step_asked, fresh_record, future_in, replied}
+use Rattle.vm_attempt.specs.Heard.{Heard}
+use Rattle.vm_attempt.specs.declared.progress.Progress.{Progress}
+use Rattle.vm_attempt.specs.declared.progress.Reply.{Reply}
+use Rattle.vm_attempt.specs.declared.progress.Reply.TheVariants as reply
+use Rattle.vm_attempt.specs.Record.{Record, heard}
+use Rattle.vm_attempt.specs.Stepping.{MakesStep, CloseDoes, FeedDoes, StepDoes, Takes, step_asked, fresh_record, future_in, replied}
 use Rattle.journal_entries.specs.Carried.{AreBelow, all_carried}
 use Rattle.vm_machine.specs.declared.machine.Machine.{Machine}
 use Rattle.vm_machine.specs.Inputs.{coverage_of, input_step}

@@ -14,7 +14,7 @@ use Rattle.vm_model.specs.Calls.{Setup, Derived, Move, commanding}
 use Rattle.vm_model.specs.Calls.Move.{Answers, Refuses}
 use Rattle.vm_model.specs.Moves.{Point, longer, moved, supply}
 use Rattle.vm_attempt.specs.Agreement.{Aside, machine_at}
-use Rattle.vm_steps.specs.Steps.{IfDone, mapped}
+use Rattle.vm_attempt.specs.Steps.{IfDone, mapped}
 use Rattle.vm_attempt.proofs.Leading.{Leads, open_after, state_at}
 use Rattle.journal_protocol.specs.Commands.{IsCommand}
 use Rattle.vm_attempt.proofs.Own.{stands_for_itself}

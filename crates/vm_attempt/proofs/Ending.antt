@@ -25,12 +25,12 @@ use Rattle.vm_model.proofs.Ended.{ended_makes_nothing, ends_or_goes_on, finished
 use Rattle.vm_model.proofs.Refusals.{refused_stuck}
 use Rattle.vm_model.proofs.Runs.{after_later, made_add, none_some}
 use Rattle.journal_protocol.specs.SignalDelivery.TheVariants.{Queued}
-use Rattle.vm_steps.specs.declared.progress.Progress.{Progress}
-use Rattle.vm_steps.specs.declared.progress.Reply.{Reply}
-use Rattle.vm_steps.specs.declared.progress.Reply.TheVariants as reply
-use Rattle.vm_steps.specs.Record.{Record, heard}
-use Rattle.vm_steps.specs.Stepping.{Advances, InputIsRead, LacksMemory, MakesStep, StepAt, StepDoes, StepFrom, StepUnless, progress_of, step_asked}
-use Rattle.vm_steps.specs.Steps.{IfDone, Performs, ReadsBack, StepMade}
+use Rattle.vm_attempt.specs.declared.progress.Progress.{Progress}
+use Rattle.vm_attempt.specs.declared.progress.Reply.{Reply}
+use Rattle.vm_attempt.specs.declared.progress.Reply.TheVariants as reply
+use Rattle.vm_attempt.specs.Record.{Record, heard}
+use Rattle.vm_attempt.specs.Stepping.{Advances, InputIsRead, LacksMemory, MakesStep, StepAt, StepDoes, StepFrom, StepUnless, progress_of, step_asked}
+use Rattle.vm_attempt.specs.Steps.{IfDone, Performs, ReadsBack, StepMade}
 use Rattle.vm_attempt.specs.Agreement.{CallFollows, CallRefused, IsCutShort, IsSuspended, StillAgrees, Waits}
 use Rattle.vm_attempt.specs.Arrivals.{arriving}
 use Rattle.vm_attempt.specs.Ending.{FinishesOn, GoesToEnd, IsRunning}

@@ -36,20 +36,20 @@ use Rattle.vm_machine.specs.Phases.{is_closed, is_running}
 use Rattle.invocation_vm.specs.Views.{View}
 use Rattle.vm_model.specs.Calls.{Setup, Meaning}
 use Rattle.vm_model.proofs.Runs.{made_add}
-use Rattle.vm_steps.specs.Heard.{Heard}
-use Rattle.vm_steps.specs.declared.progress.Progress.{Progress}
-use Rattle.vm_steps.specs.declared.progress.Progress.TheVariants as progress
-use Rattle.vm_steps.specs.declared.progress.Reply.{Reply}
-use Rattle.vm_steps.specs.declared.progress.Reply.TheVariants as reply
+use Rattle.vm_attempt.specs.Heard.{Heard}
+use Rattle.vm_attempt.specs.declared.progress.Progress.{Progress}
+use Rattle.vm_attempt.specs.declared.progress.Progress.TheVariants as progress
+use Rattle.vm_attempt.specs.declared.progress.Reply.{Reply}
+use Rattle.vm_attempt.specs.declared.progress.Reply.TheVariants as reply
 use Rattle.vm_attempt.specs.Agreement.{IsCutShort, CallRefused}
 use Rattle.vm_attempt.specs.Blames.{Blame, BlamedAt, CannotSkip, IfError, IsBlamed, LacksInput, RefusedCall, first_input, no_input_fault, skip_fault, the_input}
 use Rattle.vm_attempt.specs.Blames.Blame.{Memory, NoInput, NoSkip, Call}
 use Rattle.journal_entries.specs.JournalFrames.{commands_among, notifications_among}
 use Rattle.vm_attempt.specs.Journals.{HasAll, StillWaits, machine_fed, with_missing, setup_for}
-use Rattle.vm_steps.specs.Record.{Record, Said, all_said, heard}
-use Rattle.vm_steps.specs.Stepping.{Advances, MakesStep, LacksMemory, InputIsRead, StepAt, StepDoes, StepFrom, StepUnless, step_asked, future_in, progress_of}
-use Rattle.vm_steps.specs.Stepping as stepping
-use Rattle.vm_steps.specs.Steps.{Performs}
+use Rattle.vm_attempt.specs.Record.{Record, Said, all_said, heard}
+use Rattle.vm_attempt.specs.Stepping.{Advances, MakesStep, LacksMemory, InputIsRead, StepAt, StepDoes, StepFrom, StepUnless, step_asked, future_in, progress_of}
+use Rattle.vm_attempt.specs.Stepping as stepping
+use Rattle.vm_attempt.specs.Steps.{Performs}
 use Rattle.vm_attempt.specs.Told.{BeforeInput, Begun, JournalCame, Comes, HasCome, IsKeptUnder, IsLive, Premises, HandlerRuns, begun, frames_fed, start_state}
 use Rattle.vm_attempt.proofs.Advanced.{runs_of}
 use Rattle.vm_attempt.proofs.Ahead.{Fewer, ahead, ahead_in, fewer_same}

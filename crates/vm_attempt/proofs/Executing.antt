@@ -20,12 +20,12 @@ use Rattle.vm_model.specs.Calls.{Meaning}
 use Rattle.vm_model.specs.Fixed.{Fixed}
 use Rattle.vm_attempt.specs.Courses.{OneCall, Leads}
 use Rattle.vm_attempt.specs.Courses.OneCall.{Closing, Feeding, Stepping, Taking, Telling}
-use Rattle.vm_steps.specs.declared.progress.Progress.{Progress}
-use Rattle.vm_steps.specs.declared.progress.Progress.TheVariants as progress
-use Rattle.vm_steps.specs.declared.progress.Reply.{Reply}
-use Rattle.vm_steps.specs.declared.progress.Reply.TheVariants as reply
-use Rattle.vm_steps.specs.Record.{Record}
-use Rattle.vm_steps.specs.Stepping.{Advances, MakesStep, CloseDoes, InputIsClosed, FeedDoes, FeedsPiece, LacksMemory, InputIsRead, StepAt, StepDoes, StepFrom, StepUnless, Takes, fresh_record, future_in, with_piece_kept, progress_of, replied, step_asked, output_taken, with_vm}
+use Rattle.vm_attempt.specs.declared.progress.Progress.{Progress}
+use Rattle.vm_attempt.specs.declared.progress.Progress.TheVariants as progress
+use Rattle.vm_attempt.specs.declared.progress.Reply.{Reply}
+use Rattle.vm_attempt.specs.declared.progress.Reply.TheVariants as reply
+use Rattle.vm_attempt.specs.Record.{Record}
+use Rattle.vm_attempt.specs.Stepping.{Advances, MakesStep, CloseDoes, InputIsClosed, FeedDoes, FeedsPiece, LacksMemory, InputIsRead, StepAt, StepDoes, StepFrom, StepUnless, Takes, fresh_record, future_in, with_piece_kept, progress_of, replied, step_asked, output_taken, with_vm}
 use Rattle.vm_attempt.specs.Told.{IsLive}
 use Rattle.vm_attempt.proofs.Advanced.{done_of}
 use Rattle.vm_attempt.proofs.Ahead.{Fewer, HandsOut, HasRunOf, LivesOn, ahead, fewer_equal, fewer_same, fewer_then}

@@ -13,12 +13,12 @@ use Rattle.invocation_vm.specs.Making.{made}
 use Rattle.invocation_vm.specs.Views.{StarvesAmong, View, after_input, consumed, messages_in_bytes}
 use Rattle.vm_model.specs.Calls.{Meaning}
 use Rattle.vm_model.specs.Fixed.{Fixed}
-use Rattle.vm_steps.specs.declared.progress.Progress.{Progress}
-use Rattle.vm_steps.specs.declared.progress.Reply.{Reply}
-use Rattle.vm_steps.specs.declared.progress.Reply.TheVariants as reply
+use Rattle.vm_attempt.specs.declared.progress.Progress.{Progress}
+use Rattle.vm_attempt.specs.declared.progress.Reply.{Reply}
+use Rattle.vm_attempt.specs.declared.progress.Reply.TheVariants as reply
 use Rattle.await_trees.specs.declared.tree.UnresolvedFuture.{UnresolvedFuture}
-use Rattle.vm_steps.specs.Record.{Record}
-use Rattle.vm_steps.specs.Stepping.{Advances, CloseDoes, FeedDoes, FeedsPiece, FinishDoes, InputIsClosed, InputIsRead, LacksMemory, MakesStep, StepAt, StepDoes, StepFrom, StepUnless, Takes, fresh_record, future_in, kept_at, replied, step_asked, with_piece_kept, with_vm}
+use Rattle.vm_attempt.specs.Record.{Record}
+use Rattle.vm_attempt.specs.Stepping.{Advances, CloseDoes, FeedDoes, FeedsPiece, FinishDoes, InputIsClosed, InputIsRead, LacksMemory, MakesStep, StepAt, StepDoes, StepFrom, StepUnless, Takes, fresh_record, future_in, kept_at, replied, step_asked, with_piece_kept, with_vm}
 use Rattle.vm_attempt.specs.Courses.{FailedByResult, Leads, OneCall}
 use Rattle.vm_attempt.specs.Courses.OneCall.{Feeding, Closing, Stepping, Telling, Taking}
 use Rattle.vm_attempt.proofs.Blamed.{closing_not, none_some}

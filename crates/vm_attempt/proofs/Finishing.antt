@@ -42,14 +42,14 @@ use Rattle.vm_model.specs.Calls.{Setup}
 use Rattle.vm_model.specs.Histories.{Handed, IsPrefix, Made}
 use Rattle.vm_model.specs.Moves.{Point, start}
 use Rattle.journal_entries.specs.Journal.{stored_form}
-use Rattle.vm_steps.specs.declared.progress.Progress.{Progress}
+use Rattle.vm_attempt.specs.declared.progress.Progress.{Progress}
 use Rattle.vm_attempt.specs.Arrivals.{AllFound, arriving}
 use Rattle.vm_attempt.specs.Blames.{Blame, BlamedAt, IsBlamed, IsHonest, IsLate, IsOwnError, LateBy}
 use Rattle.vm_attempt.specs.Blames.Blame.{Memory, RunResult}
-use Rattle.vm_steps.specs.Heard.{Heard, acknowledged_from, proposals_among, proposals_in, with_pieces}
+use Rattle.vm_attempt.specs.Heard.{Heard, acknowledged_from, proposals_among, proposals_in, with_pieces}
 use Rattle.vm_attempt.specs.Journals.{HasAll, StillWaits, setup_for}
-use Rattle.vm_steps.specs.Record.{Record, Said, all_heard, all_said, heard}
-use Rattle.vm_steps.specs.Stepping.{FinishDoes, CompletesRun, ReportsRunResult, TellsUnless, newly_proposed, failed_run_noted, noted_at, with_vm}
+use Rattle.vm_attempt.specs.Record.{Record, Said, all_heard, all_said, heard}
+use Rattle.vm_attempt.specs.Stepping.{FinishDoes, CompletesRun, ReportsRunResult, TellsUnless, newly_proposed, failed_run_noted, noted_at, with_vm}
 use Rattle.vm_attempt.specs.Told.{BeforeInput, Begun, JournalCame, Comes, HasCome, InReplay, IsKept, IsKeptInReplay, IsKeptUnder, IsLive, Journal, Premises, Quiet, ReplayPremises, HandlerRuns, StillSleeps, Wrote, arrivals, frames_fed, start_state, ProvesHistory}
 use Rattle.vm_attempt.proofs.Advanced.{done_of}
 use Rattle.vm_attempt.proofs.Ahead.{Fewer, LivesOn, ended_fewer, fewer_same}

@@ -42,10 +42,10 @@ use Rattle.vm_model.specs.Deliveries.{HasNoTwo}
 use Rattle.journal_protocol.specs.SignalDelivery.TheVariants.{Queued}
 use Rattle.vm_model.specs.Histories.{IsAwaiting}
 use Rattle.vm_model.specs.Moves.{Point, move_at}
-use Rattle.vm_steps.specs.declared.progress.Reply.{Reply}
-use Rattle.vm_steps.specs.declared.progress.Reply.TheVariants as reply
+use Rattle.vm_attempt.specs.declared.progress.Reply.{Reply}
+use Rattle.vm_attempt.specs.declared.progress.Reply.TheVariants as reply
 use Rattle.vm_attempt.specs.Agreement.{Agrees, Aside, CallFollows, machine_at}
-use Rattle.vm_steps.specs.Steps.{IfDone, IsReadable, Performs, PerformsBy, ReadsBack, awakeable_reply_step as made_awakeable, commanded_reply, completed_reply, end_reply, mapped, read_made, signalled, taken}
+use Rattle.vm_attempt.specs.Steps.{IfDone, IsReadable, Performs, PerformsBy, ReadsBack, awakeable_reply_step as made_awakeable, commanded_reply, completed_reply, end_reply, mapped, read_made, signalled, taken}
 use Rattle.vm_attempt.proofs.Leading.{error_written, follows_from, no_move, open_after}
 use Rattle.vm_attempt.proofs.Own.{AsksCommand, asks_command}
 use Rattle.vm_attempt.proofs.Reading.{reads_follow}

@@ -2,7 +2,7 @@
 use Rattle.std.proofs.Common.{[], ◌∷◌, sym, subst, inl, inr, ⊎_elim}
 use Rattle.journal_entries.specs.Carried.{AreGreater, all_carried}
 use Rattle.vm_parts.specs.Outboxes.{WholeFrames}
-use Rattle.vm_steps.specs.Record.{Record, heard}
+use Rattle.vm_attempt.specs.Record.{Record, heard}
 use Rattle.vm_attempt.specs.Told.{BeforeInput, JournalCame, HasCome, NumbersFreshly}
 use Rattle.vm_attempt.proofs.Fresh.{on_greater}
 use Rattle.vm_attempt.proofs.Written.{written_is}

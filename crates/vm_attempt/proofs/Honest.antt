@@ -26,7 +26,7 @@ use Rattle.vm_model.proofs.RightKinds.{fewer_kinds}
 use Rattle.vm_model.proofs.Runs.{made_later}
 use Rattle.journal_protocol.specs.InputCommand.{InputCommand}
 use Rattle.journal_entries.specs.Journal.{Entry, Recorded, Notified, commands_in, input_read_from, notifications_in, stored_form}
-use Rattle.vm_steps.specs.Heard.{Heard}
+use Rattle.vm_attempt.specs.Heard.{Heard}
 use Rattle.vm_attempt.specs.Blames.{Began, IsHonest, Place, fault_by, phase_fault, notification_fault, refused_start, start_fault}
 use Rattle.vm_attempt.specs.Honest.{FeedsHonestly, CanBeFed, entry_frame, frame_bytes, notification_frame}
 use Rattle.journal_entries.specs.JournalFrames.{AcknowledgesNothing, is_acknowledgement, as_entries, is_notification, recorded_by, told_by}

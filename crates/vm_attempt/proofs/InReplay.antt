@@ -21,13 +21,13 @@ use Rattle.vm_model.specs.Calls.{Meaning}
 use Rattle.vm_model.specs.Deliveries.{HasNoTwo}
 use Rattle.vm_model.specs.Histories.{Handed}
 use Rattle.vm_model.specs.Moves.{later}
-use Rattle.vm_steps.specs.Heard.{Heard, and_piece}
-use Rattle.vm_steps.specs.declared.progress.Fed.{Fed}
-use Rattle.vm_steps.specs.declared.progress.Progress.{Progress}
-use Rattle.vm_steps.specs.declared.progress.Reply.{Reply}
-use Rattle.vm_steps.specs.declared.progress.Reply.TheVariants as reply
-use Rattle.vm_steps.specs.Record.{Record, heard}
-use Rattle.vm_steps.specs.Stepping.{MakesStep, CloseDoes, FeedDoes, IsReplaying, StepDoes, Takes, future_in, replied, step_asked}
+use Rattle.vm_attempt.specs.Heard.{Heard, and_piece}
+use Rattle.vm_attempt.specs.declared.progress.Fed.{Fed}
+use Rattle.vm_attempt.specs.declared.progress.Progress.{Progress}
+use Rattle.vm_attempt.specs.declared.progress.Reply.{Reply}
+use Rattle.vm_attempt.specs.declared.progress.Reply.TheVariants as reply
+use Rattle.vm_attempt.specs.Record.{Record, heard}
+use Rattle.vm_attempt.specs.Stepping.{MakesStep, CloseDoes, FeedDoes, IsReplaying, StepDoes, Takes, future_in, replied, step_asked}
 use Rattle.vm_attempt.specs.Journals.{HasAll, StillWaits, setup_for}
 use Rattle.vm_attempt.specs.Told.{AnswersAreTold, BeforeInput, Begun, JournalCame, ProvesHistory, InReplay, IsKeptInReplay, IsLive, ReplayPremises, AnswersInReplay, HandlerRuns, bytes_fed, frames_fed, start_state}
 use Rattle.vm_attempt.proofs.Advanced.{kept_told, reads_done, runs_of, step_replays, steps_keep}

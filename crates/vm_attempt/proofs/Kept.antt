@@ -22,13 +22,13 @@ use Rattle.journal_entries.specs.Frames.{Tail, Rest, Garbage, frames_of}
 use Rattle.invocation_vm.specs.Views.{StarvesAmong, messages_in_bytes, View, after_closing, after_input, all_received, consumed, has_failed, left_by, left_over, received, spoiled}
 use Rattle.invocation_vm.proofs.Feeds.{among_failed, among_output}
 use Rattle.journal_entries.proofs.Cuts.{frames_of-append}
-use Rattle.vm_steps.specs.Heard.{Heard, and_piece, with_pieces}
-use Rattle.vm_steps.specs.declared.progress.Fed.{Fed}
+use Rattle.vm_attempt.specs.Heard.{Heard, and_piece, with_pieces}
+use Rattle.vm_attempt.specs.declared.progress.Fed.{Fed}
 use Rattle.vm_attempt.specs.Agreement.{Aside}
 use Rattle.journal_entries.specs.JournalFrames.{is_command_frame, is_ephemeral, is_notification, is_acknowledgement}
 use Rattle.vm_attempt.specs.Journals.{HasAll, StillWaits, setup_for}
-use Rattle.vm_steps.specs.Record.{Record, heard}
-use Rattle.vm_steps.specs.Stepping.{CloseDoes, InputIsClosed, FeedDoes, FeedsPiece, Takes, emptied, with_piece_kept, kept_at, with_vm}
+use Rattle.vm_attempt.specs.Record.{Record, heard}
+use Rattle.vm_attempt.specs.Stepping.{CloseDoes, InputIsClosed, FeedDoes, FeedsPiece, Takes, emptied, with_piece_kept, kept_at, with_vm}
 use Rattle.vm_parts.specs.Outboxes.{WholeFrames}
 use Rattle.vm_attempt.specs.Told.{BeforeInput, Begun, Comes, IsLive, Quiet, bytes_fed, frames_fed}
 use Rattle.vm_attempt.proofs.Arriving.{failed_receives, unknown_step}

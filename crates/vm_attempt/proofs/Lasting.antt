@@ -13,12 +13,12 @@ use Rattle.vm_machine.specs.Phases.{is_running}
 use Rattle.journal_entries.specs.Frames.{frames_of}
 use Rattle.invocation_vm.specs.Views.{View, after_input, all_received}
 use Rattle.vm_model.specs.Calls.{Setup}
-use Rattle.vm_steps.specs.Heard.{Heard, and_piece, with_pieces}
-use Rattle.vm_steps.specs.declared.progress.Fed.{Fed}
+use Rattle.vm_attempt.specs.Heard.{Heard, and_piece, with_pieces}
+use Rattle.vm_attempt.specs.declared.progress.Fed.{Fed}
 use Rattle.vm_parts.specs.declared.context.StateMap.{StateMap}
 use Rattle.vm_attempt.specs.Agreement.{Agrees}
 use Rattle.vm_attempt.specs.Journals.{setup_for}
-use Rattle.vm_steps.specs.Stepping.{emptied}
+use Rattle.vm_attempt.specs.Stepping.{emptied}
 use Rattle.vm_parts.specs.Outboxes.{WholeFrames}
 use Rattle.vm_attempt.specs.Told.{IsLive, Quiet, HandlerRuns, frames_fed, start_state, JournalCame}
 use Rattle.vm_attempt.proofs.Pieces.{fed_frames, journal_to, keeps_more, more_arrivals, not_failed, run_to, running_fed, still_awaits, took_in}

@@ -19,16 +19,16 @@ use Rattle.vm_machine.specs.Outcomes.{IsStarved, ruled_by}
 use Rattle.vm_machine.specs.Phases.{is_running}
 use Rattle.journal_entries.specs.Frames.{Tail, Rest, Garbage, frames_of}
 use Rattle.invocation_vm.specs.Views.{StarvesAmong, View, after_closing, after_input, all_received, messages_in_bytes, consumed, left_over}
-use Rattle.vm_steps.specs.Heard.{Heard, and_piece, with_pieces}
-use Rattle.vm_steps.specs.declared.progress.Fed.{Fed}
-use Rattle.vm_steps.specs.declared.progress.Progress.{Progress}
-use Rattle.vm_steps.specs.declared.progress.Reply.{Reply}
-use Rattle.vm_steps.specs.declared.progress.Reply.TheVariants as reply
+use Rattle.vm_attempt.specs.Heard.{Heard, and_piece, with_pieces}
+use Rattle.vm_attempt.specs.declared.progress.Fed.{Fed}
+use Rattle.vm_attempt.specs.declared.progress.Progress.{Progress}
+use Rattle.vm_attempt.specs.declared.progress.Reply.{Reply}
+use Rattle.vm_attempt.specs.declared.progress.Reply.TheVariants as reply
 use Rattle.vm_attempt.specs.Blames.{BadFrame, Began, BehindEnd, Blame, FailsAt, IfError, IsBlamed, IsLate, LateBy, fault_by, fault_among, unknown_fault}
 use Rattle.vm_attempt.specs.Blames.Blame.{Memory, Frame, NoFrame}
 use Rattle.journal_entries.specs.JournalFrames.{is_command_frame, is_ephemeral, is_notification, is_acknowledgement}
-use Rattle.vm_steps.specs.Record.{Record, Said, heard, all_heard, all_said}
-use Rattle.vm_steps.specs.Stepping.{Advances, MakesStep, CloseDoes, InputIsClosed, FeedDoes, FeedsPiece, LacksMemory, InputIsRead, StepAt, StepDoes, StepFrom, StepUnless, Takes, fed_now, future_in, with_piece_kept, kept_at, replied, step_asked, output_taken, with_vm}
+use Rattle.vm_attempt.specs.Record.{Record, Said, heard, all_heard, all_said}
+use Rattle.vm_attempt.specs.Stepping.{Advances, MakesStep, CloseDoes, InputIsClosed, FeedDoes, FeedsPiece, LacksMemory, InputIsRead, StepAt, StepDoes, StepFrom, StepUnless, Takes, fed_now, future_in, with_piece_kept, kept_at, replied, step_asked, output_taken, with_vm}
 use Rattle.vm_attempt.specs.Told.{BeforeInput, JournalCame, HasCome, IsKeptUnder, IsLive, bytes_fed, frames_fed}
 use Rattle.vm_attempt.proofs.Blamed.{closed_blame, closed_now, closing_at, closing_not, none_some, spoils, spoils_not}
 use Rattle.vm_attempt.proofs.Blaming.{frames_fit}

@@ -22,9 +22,9 @@ use Rattle.vm_asks.specs.Asks.{ask_of}
 use Rattle.vm_model.proofs.Parts.{IsOfOne, next_keeps}
 use Rattle.vm_model.proofs.Runs.{made_spent, next_spent}
 use Rattle.vm_model.specs.Refusals.{IsRefusedFor}
-use Rattle.vm_steps.specs.declared.progress.Reply.TheVariants as reply
+use Rattle.vm_attempt.specs.declared.progress.Reply.TheVariants as reply
 use Rattle.vm_attempt.specs.Agreement.{Aside, Beside, CallFollows, MovesOn, command_frames, machine_at}
-use Rattle.vm_steps.specs.Steps.{mapped}
+use Rattle.vm_attempt.specs.Steps.{mapped}
 
 -- what stands aside, with these frames written
 abbrev pub with_frames : List RawMessage → Aside → Aside

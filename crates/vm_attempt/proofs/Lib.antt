@@ -1,3 +1,7 @@
+pub mod Asking
+pub mod Feeding
+pub mod Replies
+pub mod Lengths
 pub mod Leading
 pub mod Own
 pub mod Requesting

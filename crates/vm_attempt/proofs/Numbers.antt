@@ -71,8 +71,8 @@ use Rattle.vm_awaits.specs.Cancels.{AwaitsWhole, Cancels, FinishesIf, Onward, Se
 use Rattle.vm_awaits.proofs.Cancelling.{read_known, woken_used}
 use Rattle.invocation_vm.specs.Calls.{new_awakeable_step}
 use Rattle.journal_entries.specs.Journal.{stored_form}
-use Rattle.vm_steps.specs.declared.progress.Reply.{Reply}
-use Rattle.vm_steps.specs.Steps.{AllCarried, Awaited, IsReadable, Performs, PerformsBy, ReadsBack, mapped}
+use Rattle.vm_attempt.specs.declared.progress.Reply.{Reply}
+use Rattle.vm_attempt.specs.Steps.{AllCarried, Awaited, IsReadable, Performs, PerformsBy, ReadsBack, mapped}
 use Rattle.std.specs.Prelude.{OnOk}
 use Rattle.journal_entries.specs.JournalFrames.{is_command_frame}
 use Rattle.vm_attempt.specs.Told.{commands_of}

@@ -20,10 +20,10 @@ use Rattle.std.proofs.Common.{Global}
 use Rattle.vm_model.specs.Histories.{Made, Knowledge, Handed}
 use Rattle.vm_model.specs.Moves.{Point, later, start}
 use Rattle.vm_model.proofs.Runs.{made_later}
-use Rattle.vm_steps.specs.Heard.{Heard, and_piece, with_pieces}
+use Rattle.vm_attempt.specs.Heard.{Heard, and_piece, with_pieces}
 use Rattle.journal_protocol.specs.ProposeRunCompletion.{ProposeRunCompletion}
 use Rattle.std.specs.List.{AllByRecursion}
-use Rattle.vm_steps.specs.declared.progress.Fed.{Fed}
+use Rattle.vm_attempt.specs.declared.progress.Fed.{Fed}
 use Rattle.vm_attempt.specs.Agreement.{Agrees, Aside}
 use Rattle.vm_attempt.specs.Arrivals.{AllFound, arriving, kept_after}
 use Rattle.journal_entries.specs.JournalFrames.{AcknowledgesNothing, commands_among, notifications_among}

@@ -21,7 +21,7 @@ use Rattle.journal_entries.specs.Journal.{Entry, commands_in, notifications_in}
 use Rattle.journal_entries.specs.JournalFrames.{as_entries}
 use Rattle.vm_model.specs.Moves.{start}
 use Rattle.vm_model.proofs.Replays.{replay_is_history}
-use Rattle.vm_steps.specs.Heard.{Heard}
+use Rattle.vm_attempt.specs.Heard.{Heard}
 use Rattle.vm_attempt.specs.Arrivals.{arriving}
 use Rattle.vm_attempt.specs.Journals.{setup_for}
 use Rattle.vm_attempt.specs.Told.{HandlerRuns, Journal, ProvesHistory, ToldBy, arrivals, start_state}

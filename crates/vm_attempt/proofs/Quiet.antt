@@ -30,7 +30,7 @@ use Rattle.invocation_vm.specs.Views.{View, after_closing, after_input, all_rece
 use Rattle.std.proofs.lemmas.Bool.{eqb-true}
 use Rattle.journal_protocol.specs.ProposeRunCompletion.{ProposeRunCompletion}
 use Rattle.journal_entries.specs.Journal.{stored_form}
-use Rattle.vm_steps.specs.Heard.{proposals_among, proposed_by}
+use Rattle.vm_attempt.specs.Heard.{proposals_among, proposed_by}
 use Rattle.journal_entries.specs.JournalFrames.{is_command_frame, is_proposal}
 use Rattle.vm_attempt.specs.Told.{Quiet, Wrote, commands_of}
 

@@ -27,7 +27,7 @@ use Rattle.journal_entries.specs.Journal.{stored_form}
 use Rattle.vm_model.specs.Moves.{Point, with_read_result, changed_by, command_used, found, longer, moved, supply}
 use Rattle.vm_model.proofs.Standing.{read_stands}
 use Rattle.vm_attempt.specs.Agreement.{Aside, Beside, machine_at}
-use Rattle.vm_steps.specs.Steps.{IfDone}
+use Rattle.vm_attempt.specs.Steps.{IfDone}
 use Rattle.vm_attempt.proofs.Leading.{Leads, open_after, state_at, with_beside, with_frames}
 use Rattle.vm_attempt.proofs.Requesting.{changed_behind, runs_at, some_behind, uses_next, uses_own}
 

@@ -21,9 +21,9 @@ use Rattle.vm_model.proofs.RightKinds.{none_unexpected}
 use Rattle.vm_model.proofs.Refusals.{own_reason, refused_stuck}
 use Rattle.vm_model.specs.Refusals.{IsRefusedFor}
 use Rattle.std.specs.Prelude.{Result, Ok, Err}
-use Rattle.vm_steps.specs.Heard.{Heard}
-use Rattle.vm_steps.specs.Record.{Said}
-use Rattle.vm_steps.specs.declared.progress.Progress.{Progress}
+use Rattle.vm_attempt.specs.Heard.{Heard}
+use Rattle.vm_attempt.specs.Record.{Said}
+use Rattle.vm_attempt.specs.declared.progress.Progress.{Progress}
 use Rattle.vm_attempt.specs.Blames.{RefusedCall, Blame, IfError, IsHonest, IsOwnError, first_input}
 use Rattle.vm_attempt.specs.Blames.Blame.{Memory, Frame, NoFrame, ClosedEarly, NoInput, NoSkip, Call, RunResult}
 use Rattle.journal_entries.specs.JournalFrames.{as_entries, commands_among, is_command_frame, is_notification, notifications_among, notified_by, recorded_by, told_by}

@@ -31,7 +31,7 @@ use Rattle.journal_entries.specs.Journal.{stored_form}
 use Rattle.vm_model.specs.Moves.{Point, changed_by, command_used, found, longer, moved, reads_as, supply, uses_command}
 use Rattle.vm_model.proofs.Runs.{longer_nothing}
 use Rattle.vm_attempt.specs.Agreement.{Aside, Beside, is_some_command, machine_at}
-use Rattle.vm_steps.specs.Steps.{IfDone}
+use Rattle.vm_attempt.specs.Steps.{IfDone}
 use Rattle.vm_attempt.proofs.Leading.{Leads, Refusing, open_after, state_at, with_beside, with_frames}
 
 -- ---- the event, by what is left

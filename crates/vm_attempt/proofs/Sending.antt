@@ -55,7 +55,7 @@ use Rattle.journal_protocol.specs.Commands.{IsCommand}
 use Rattle.journal_protocol.specs.NotificationId.{NotificationId}
 use Rattle.vm_types.specs.declared.options.AwaitingOnPolicy.{AwaitingOnPolicy}
 use Rattle.journal_entries.specs.Journal.{stored_form}
-use Rattle.vm_steps.specs.Heard.{proposals_among}
+use Rattle.vm_attempt.specs.Heard.{proposals_among}
 use Rattle.vm_attempt.proofs.Own.{AsksCommand, asks_command, numbered_is, own_is}
 use Rattle.vm_attempt.proofs.Quiet.{forms_append, map_append, proposals_append, proposes_nothing}
 use Rattle.vm_machine.specs.Takes.{result_taken, take_step, taken_at, value_noted, value_taken}
@@ -68,9 +68,9 @@ use Rattle.vm_machine.specs.Phases.{is_closed, is_processing, is_replaying, is_r
 use Rattle.vm_asks.specs.Requests.{ids_of, name_of, shown_type, with_ids}
 use Rattle.vm_machine.specs.Signals.{awakeable_counted, awakeable_step, name_handed_out, signal_counted, signal_handed_out, signal_step}
 use Rattle.invocation_vm.specs.Calls.{new_awakeable_step}
-use Rattle.vm_steps.specs.declared.progress.Reply.{Reply}
-use Rattle.vm_steps.specs.declared.progress.Reply.TheVariants as reply
-use Rattle.vm_steps.specs.Steps.{AllCarried, Awaited, Performs, PerformsBy, await_reply, mapped}
+use Rattle.vm_attempt.specs.declared.progress.Reply.{Reply}
+use Rattle.vm_attempt.specs.declared.progress.Reply.TheVariants as reply
+use Rattle.vm_attempt.specs.Steps.{AllCarried, Awaited, Performs, PerformsBy, await_reply, mapped}
 use Rattle.vm_attempt.specs.Told.{IsLive}
 use Rattle.vm_attempt.proofs.Ahead.{Fewer, HandsOut, HasRunOf, executed_fewer, executed_once, fewer_same, fewer_then, given_fewer, handed_since, prepared_fewer, started_has}
 

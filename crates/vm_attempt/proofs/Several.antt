@@ -32,8 +32,8 @@ use Rattle.vm_model.specs.Refusals.{IsRefusedFor}
 use Rattle.vm_model.proofs.Cancelling.{exactly_none}
 use Rattle.vm_model.proofs.Parts.{next_turn, turn_apart}
 use Rattle.vm_model.proofs.Runs.{none_some}
-use Rattle.vm_steps.specs.declared.progress.Reply.{Reply}
-use Rattle.vm_steps.specs.Steps.{AllCarried, IfDone}
+use Rattle.vm_attempt.specs.declared.progress.Reply.{Reply}
+use Rattle.vm_attempt.specs.Steps.{AllCarried, IfDone}
 use Rattle.vm_attempt.specs.Agreement.{Answered, Aside, CallFollows, IsCutShort, CallRefused, MakesMany, MovesOn, command_frames, machine_at}
 use Rattle.vm_attempt.proofs.Behind.{answered_behind, either_behind, settled_done, settled_failed}
 use Rattle.vm_attempt.proofs.Commanding.{LeadsOn, commands_follow}

@@ -11,14 +11,14 @@ use Rattle.vm_machine.specs.declared.phase.Phase.{Phase}
 use Rattle.vm_machine.specs.declared.phase.Phase.TheVariants.{WaitingStart, WaitingReplayEntries, Replaying, Processing, Closed}
 use Rattle.invocation_vm.specs.Views.{StarvesAmong, View, after_closing, after_input, messages_in_bytes}
 use Rattle.vm_model.specs.Calls.{Meaning}
-use Rattle.vm_steps.specs.Heard.{Heard}
-use Rattle.vm_steps.specs.declared.progress.Progress.{Progress}
-use Rattle.vm_steps.specs.declared.progress.Progress.TheVariants as progress
-use Rattle.vm_steps.specs.declared.progress.Reply.{Reply}
-use Rattle.vm_steps.specs.declared.progress.Reply.TheVariants as reply
+use Rattle.vm_attempt.specs.Heard.{Heard}
+use Rattle.vm_attempt.specs.declared.progress.Progress.{Progress}
+use Rattle.vm_attempt.specs.declared.progress.Progress.TheVariants as progress
+use Rattle.vm_attempt.specs.declared.progress.Reply.{Reply}
+use Rattle.vm_attempt.specs.declared.progress.Reply.TheVariants as reply
 use Rattle.vm_attempt.specs.Blames.{IsLate, LateBy}
-use Rattle.vm_steps.specs.Record.{Record, heard}
-use Rattle.vm_steps.specs.Stepping.{Advances, MakesStep, CloseDoes, InputIsClosed, FeedDoes, FeedsPiece, IfWaits, LacksMemory, InputIsRead, StepAt, StepDoes, StepFrom, StepUnless, Takes, future_in, with_piece_kept, kept_at, progress_of, replied, step_asked, output_taken, with_vm}
+use Rattle.vm_attempt.specs.Record.{Record, heard}
+use Rattle.vm_attempt.specs.Stepping.{Advances, MakesStep, CloseDoes, InputIsClosed, FeedDoes, FeedsPiece, IfWaits, LacksMemory, InputIsRead, StepAt, StepDoes, StepFrom, StepUnless, Takes, future_in, with_piece_kept, kept_at, progress_of, replied, step_asked, output_taken, with_vm}
 use Rattle.vm_attempt.specs.Told.{IsKeptUnder, NothingWakes, Premises, Quiet, AwaitWaits, StillSleeps}
 use Rattle.vm_attempt.proofs.Advanced.{asleep_waits, step_waits}
 use Rattle.invocation_vm.proofs.Feeds.{among_output}

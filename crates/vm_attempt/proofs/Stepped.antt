@@ -54,16 +54,16 @@ use Rattle.vm_model.specs.Histories.{IsPrefix, Made, Handed, Knowledge}
 use Rattle.vm_model.proofs.Compared.{after_answers, attempt_is_told}
 use Rattle.std.proofs.lemmas.Option.{same_Some}
 use Rattle.vm_model.proofs.Runs.{and_then_some, made_add, none_some}
-use Rattle.vm_steps.specs.Heard.{Heard}
-use Rattle.vm_steps.specs.declared.progress.Progress.{Progress}
-use Rattle.vm_steps.specs.declared.progress.Reply.{Reply}
-use Rattle.vm_steps.specs.declared.progress.Reply.TheVariants as reply
+use Rattle.vm_attempt.specs.Heard.{Heard}
+use Rattle.vm_attempt.specs.declared.progress.Progress.{Progress}
+use Rattle.vm_attempt.specs.declared.progress.Reply.{Reply}
+use Rattle.vm_attempt.specs.declared.progress.Reply.TheVariants as reply
 use Rattle.vm_attempt.specs.Agreement.{Agrees, Answered, CallFollows, HasEnded, IsCutShort, CallRefused, IsSuspended, MovesOn, StillAgrees, Waits, command_frames, suspended_on, waiting_on}
 use Rattle.journal_entries.specs.JournalFrames.{is_command_frame}
 use Rattle.vm_attempt.specs.Journals.{setup_for}
-use Rattle.vm_steps.specs.Record.{Record, heard}
-use Rattle.vm_steps.specs.Stepping.{MakesStep, IfWaits, step_asked, asked_from, future_in, progress_of, replied, with_vm}
-use Rattle.vm_steps.specs.Steps.{IfDone, Performs, ReadsBack, StepMade}
+use Rattle.vm_attempt.specs.Record.{Record, heard}
+use Rattle.vm_attempt.specs.Stepping.{MakesStep, IfWaits, step_asked, asked_from, future_in, progress_of, replied, with_vm}
+use Rattle.vm_attempt.specs.Steps.{IfDone, Performs, ReadsBack, StepMade}
 use Rattle.vm_attempt.specs.Told.{IsKept, IsLive, RefusesReplay, AnswersInReplay, HandlerRuns, AwaitWaits, StarvesReplay, StillAwaits, Wrote, arrivals, commands_of, start_state}
 use Rattle.vm_model.proofs.Parts.{IsOfOne, turn_is}
 use Rattle.vm_model.proofs.Rests.{made_keeps}

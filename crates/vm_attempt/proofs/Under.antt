@@ -16,15 +16,15 @@ use Rattle.vm_model.specs.Calls.{Meaning}
 use Rattle.vm_model.specs.Deliveries.{HasNoTwo, deliveries}
 use Rattle.vm_model.specs.Histories.{Handed}
 use Rattle.vm_model.specs.Moves.{Point, later}
-use Rattle.vm_steps.specs.Heard.{Heard, and_piece}
-use Rattle.vm_steps.specs.declared.progress.Fed.{Fed}
-use Rattle.vm_steps.specs.declared.progress.Progress.{Progress}
+use Rattle.vm_attempt.specs.Heard.{Heard, and_piece}
+use Rattle.vm_attempt.specs.declared.progress.Fed.{Fed}
+use Rattle.vm_attempt.specs.declared.progress.Progress.{Progress}
 use Rattle.vm_attempt.specs.Journals.{setup_for}
-use Rattle.vm_steps.specs.Record.{Record, heard}
-use Rattle.vm_steps.specs.Stepping.{Advances, MakesStep, CloseDoes, InputIsClosed, FeedDoes, FeedsPiece, LacksMemory, InputIsRead, StepAt, StepDoes, StepFrom, StepUnless, Takes, with_piece_kept, kept_at, step_asked, future_in, replied, with_vm}
+use Rattle.vm_attempt.specs.Record.{Record, heard}
+use Rattle.vm_attempt.specs.Stepping.{Advances, MakesStep, CloseDoes, InputIsClosed, FeedDoes, FeedsPiece, LacksMemory, InputIsRead, StepAt, StepDoes, StepFrom, StepUnless, Takes, with_piece_kept, kept_at, step_asked, future_in, replied, with_vm}
 use Rattle.vm_attempt.specs.Told.{IsKeptUnder, Premises, HandlerRuns, bytes_fed, frames_fed, start_state}
-use Rattle.vm_steps.specs.declared.progress.Reply.{Reply}
-use Rattle.vm_steps.specs.declared.progress.Reply.TheVariants as reply
+use Rattle.vm_attempt.specs.declared.progress.Reply.{Reply}
+use Rattle.vm_attempt.specs.declared.progress.Reply.TheVariants as reply
 use Rattle.await_trees.specs.declared.tree.UnresolvedFuture.{UnresolvedFuture}
 use Rattle.invocation_vm.specs.Views.{StarvesAmong, View, messages_in_bytes}
 use Rattle.vm_attempt.proofs.Advanced.{step_keeps}

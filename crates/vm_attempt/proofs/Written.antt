@@ -14,11 +14,11 @@ use Rattle.journal_entries.proofs.Cuts.{frames_of-next}
 use Rattle.journal_entries.specs.Journal.{stored_form}
 use Rattle.vm_attempt.specs.Honest.{frame_bytes}
 use Rattle.journal_entries.specs.JournalFrames.{commands_among, is_command_frame}
-use Rattle.vm_steps.specs.Record.{Record, bytes_written, heard}
+use Rattle.vm_attempt.specs.Record.{Record, bytes_written, heard}
 use Rattle.vm_attempt.specs.Told.{BeforeInput, JournalCame, HasCome, Wrote, commands_of, written_by}
 use Rattle.journal_protocol.specs.ProposeRunCompletion.{ProposeRunCompletion}
 use Rattle.journal_protocol.specs.Message.TheVariants as message
-use Rattle.vm_steps.specs.Heard.{proposals_among, proposals_in, proposed_by}
+use Rattle.vm_attempt.specs.Heard.{proposals_among, proposals_in, proposed_by}
 use Rattle.vm_attempt.proofs.Quiet.{commands_append, forms_append, map_append, proposals_append}
 use Rattle.vm_model.specs.Fixed.{Fixed}
 

@@ -42,8 +42,8 @@ use Rattle.vm_model.specs.Calls.Move.{Awaits}
 use Rattle.vm_model.specs.Moves.{Point, changed_by, move_at}
 use Rattle.vm_model.specs.Histories.{Handed, IsAwaiting, Made}
 use Rattle.vm_model.specs.Refusals.{IsRefusedFor}
-use Rattle.vm_steps.specs.declared.progress.Reply.{Reply}
-use Rattle.vm_steps.specs.declared.progress.Reply.TheVariants as reply
+use Rattle.vm_attempt.specs.declared.progress.Reply.{Reply}
+use Rattle.vm_attempt.specs.declared.progress.Reply.TheVariants as reply
 
 -- what the calls so far left in a machine that no later move depends on: the last command, as
 -- errors show it, and the pending runs

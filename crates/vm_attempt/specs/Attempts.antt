@@ -1,8 +1,8 @@
 -- What is asked of an attempt's input, and what its calls promise then. Read this file first.
 use Rattle.std.specs.Prelude.{Result}
 use Rattle.journal_protocol.specs.Error.{Error}
-use Rattle.vm_steps.specs.declared.progress.Progress.{Progress}
-use Rattle.vm_steps.specs.Record.{Record, all_heard, all_said, heard}
+use Rattle.vm_attempt.specs.declared.progress.Progress.{Progress}
+use Rattle.vm_attempt.specs.Record.{Record, all_heard, all_said, heard}
 use Rattle.vm_model.specs.Fixed.{Fixed}
 use Rattle.vm_attempt.specs.Blames.{Blame, IsHonest, IsOwnError}
 use Rattle.vm_attempt.specs.Told.{AnswersAreTold, NothingWakes, NumbersFreshly, Premises, ProvesHistory, ReplayPremises, AnswersInReplay}

@@ -43,13 +43,13 @@ use Rattle.journal_entries.specs.Journal.{input_read_from}
 use Rattle.vm_model.specs.Moves.{Point}
 use Rattle.vm_model.specs.Refusals.{IsRefusedFor}
 use Rattle.vm_attempt.specs.Arrivals.{kept_after}
-use Rattle.vm_steps.specs.Heard.{Heard}
-use Rattle.vm_steps.specs.Steps.{Performs}
-use Rattle.vm_steps.specs.Stepping.{asked_from}
-use Rattle.vm_steps.specs.declared.progress.Progress.{Progress}
+use Rattle.vm_attempt.specs.Heard.{Heard}
+use Rattle.vm_attempt.specs.Steps.{Performs}
+use Rattle.vm_attempt.specs.Stepping.{asked_from}
+use Rattle.vm_attempt.specs.declared.progress.Progress.{Progress}
 use Rattle.journal_entries.specs.JournalFrames.{as_entries, commands_among, is_acknowledgement, is_command_frame, is_ephemeral, is_notification}
 use Rattle.vm_attempt.specs.Journals.{setup_for}
-use Rattle.vm_steps.specs.Record.{Record, Said, all_heard, all_said, heard}
+use Rattle.vm_attempt.specs.Record.{Record, Said, all_heard, all_said, heard}
 use Rattle.vm_attempt.specs.Told.{AreRightlyKinded, IsLive, ProposesLate, Journal, Premises, bytes_fed, frames_fed, MovesTo, next_move}
 use Rattle.vm_model.specs.Fixed.{Fixed}
 

@@ -5,9 +5,9 @@ use Rattle.await_trees.specs.declared.handle.NotificationHandle.{NotificationHan
 use Rattle.journal_protocol.specs.Error.{Error}
 use Rattle.vm_retries.specs.declared.policy.RetryPolicy.{RetryPolicy}
 use Rattle.vm_types.specs.declared.runs.RunExitResult.{RunExitResult}
-use Rattle.vm_steps.specs.declared.progress.Progress.{Progress}
-use Rattle.vm_steps.specs.Record.{Record}
-use Rattle.vm_steps.specs.Stepping.{CloseDoes, FeedDoes, FinishDoes, StepFunction, StepDoes, Takes}
+use Rattle.vm_attempt.specs.declared.progress.Progress.{Progress}
+use Rattle.vm_attempt.specs.Record.{Record}
+use Rattle.vm_attempt.specs.Stepping.{CloseDoes, FeedDoes, FinishDoes, StepFunction, StepDoes, Takes}
 
 -- One call of an attempt did this to its record: any call, with any answer.
 pub data OneCall (m : StepFunction) (old new : Record) : Type 0 where

@@ -5,10 +5,10 @@ use Rattle.journal_protocol.specs.Errors.{no_memory}
 use Rattle.vm_model.specs.Finished.{HasFinished}
 use Rattle.vm_model.specs.Fixed.{Fixed}
 use Rattle.journal_entries.specs.JournalFrames.{as_entries}
-use Rattle.vm_steps.specs.declared.progress.Progress.{Progress}
-use Rattle.vm_steps.specs.declared.progress.Progress.TheVariants as progress
-use Rattle.vm_steps.specs.Heard.{Heard}
-use Rattle.vm_steps.specs.Record.{Record}
+use Rattle.vm_attempt.specs.declared.progress.Progress.{Progress}
+use Rattle.vm_attempt.specs.declared.progress.Progress.TheVariants as progress
+use Rattle.vm_attempt.specs.Heard.{Heard}
+use Rattle.vm_attempt.specs.Record.{Record}
 use Rattle.vm_attempt.specs.Journals.{setup_for}
 use Rattle.vm_attempt.specs.Told.{IsLive, Journal}
 

@@ -18,7 +18,7 @@ use Rattle.journal_entries.specs.Journal.{Entry, Recorded, Notified, notificatio
 use Rattle.journal_protocol.specs.ProposeRunCompletionAck.{ProposeRunCompletionAck}
 use Rattle.journal_protocol.specs.Message.{Message}
 use Rattle.vm_attempt.specs.Arrivals.{AllFound, arriving}
-use Rattle.vm_steps.specs.Heard.{Heard}
+use Rattle.vm_attempt.specs.Heard.{Heard}
 use Rattle.journal_entries.specs.JournalFrames.{is_command_frame}
 use Rattle.vm_attempt.specs.Journals.{setup_for}
 use Rattle.vm_attempt.specs.Told.{bytes_fed}

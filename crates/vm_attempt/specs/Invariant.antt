@@ -1,6 +1,6 @@
 -- What holds of an attempt at all times.
 use Rattle.vm_parts.specs.Outboxes.{WholeFrames}
-use Rattle.vm_steps.specs.Record.{Record}
+use Rattle.vm_attempt.specs.Record.{Record}
 use Rattle.vm_model.specs.Fixed.{Fixed}
 use Rattle.vm_attempt.specs.Blames.{IsBlamed, IsLate}
 use Rattle.vm_attempt.specs.Told.{HasCome, IsKeptInReplay, IsKeptUnder, StillSleeps}

@@ -1,3 +1,8 @@
+pub mod Inside
+pub mod Record
+pub mod Stepping
+pub mod Steps
+pub mod Heard
 pub mod Fixed
 pub mod Agreement
 pub mod Arrivals

@@ -37,9 +37,9 @@ use Rattle.vm_model.specs.Moves.{Point, move_at, start}
 use Rattle.vm_model.specs.Histories.{EagerFrom, Handed, History, IsPrefix, Made, Told, after_head}
 use Rattle.vm_model.specs.Refusals.{IsRefusedFor}
 use Rattle.vm_machine.specs.Outcomes.{IsStarved, ruled}
-use Rattle.vm_steps.specs.declared.progress.Fed.{Fed}
-use Rattle.vm_steps.specs.declared.progress.Progress.{Progress}
-use Rattle.vm_steps.specs.declared.progress.Progress.TheVariants as progress
+use Rattle.vm_attempt.specs.declared.progress.Fed.{Fed}
+use Rattle.vm_attempt.specs.declared.progress.Progress.{Progress}
+use Rattle.vm_attempt.specs.declared.progress.Progress.TheVariants as progress
 use Rattle.vm_asks.specs.Asks.{ask_of}
 use Rattle.vm_attempt.specs.Agreement.{Agrees, Aside, MakesMany, command_frames}
 use Rattle.journal_entries.specs.JournalFrames.{AcknowledgesNothing, as_entries, commands_among, is_command_frame}
@@ -47,9 +47,9 @@ use Rattle.vm_attempt.specs.Journals.{HasAll, StillWaits, setup_for}
 use Rattle.vm_types.specs.declared.steps.Answer.{Answer}
 use Rattle.invocation_vm.specs.Views.{View}
 use Rattle.vm_attempt.specs.Arrivals.{AllFound, arriving, kept_after}
-use Rattle.vm_steps.specs.Heard.{Heard, proposals_among}
-use Rattle.vm_steps.specs.Record.{Record, bytes_written, heard}
-use Rattle.vm_steps.specs.Stepping.{IfWaits}
+use Rattle.vm_attempt.specs.Heard.{Heard, proposals_among}
+use Rattle.vm_attempt.specs.Record.{Record, bytes_written, heard}
+use Rattle.vm_attempt.specs.Stepping.{IfWaits}
 use Rattle.vm_model.specs.Fixed.{Fixed}
 
 -- ---- what is read from the record

@@ -1,6 +1,8 @@
 //! One attempt of a handler: bytes in, steps, bytes out. Its answers are at all times those of the handler's run over its journal.
 ghost use Rattle.std.specs.Prelude.{codes};
 
+use crate::inner::Inner;
+use crate::progress::Progress;
 use await_trees::NotificationHandle;
 use bytes::Bytes;
 use invocation_vm::{CoreVM, VM, version_in};
@@ -8,7 +10,6 @@ use journal_protocol::{Error, HeaderMap, Version};
 use std::alloc::{AllocError, Global};
 use std::marker::Model;
 use vm_retries::RetryPolicy;
-use vm_steps::{Inner, Progress};
 use vm_types::{Answer, Handler, RunExitResult, State, VMOptions, VMResult};
 
 /// An attempt of a handler over the VM. It keeps a record: each piece of input until the VM failed or closed, the pieces that
@@ -33,8 +34,8 @@ impl<H: Handler + Drop> Drop for Attempt<H> {
 }
 
 impl<H: Handler> Model for Attempt<H> {
-    ghost use Rattle.vm_steps.specs.Record.{AttemptView};
-    ghost use Rattle.vm_steps.specs.Inside.{the_record};
+    ghost use Rattle.vm_attempt.specs.Record.{AttemptView};
+    ghost use Rattle.vm_attempt.specs.Inside.{the_record};
     ghost use Rattle.vm_model.specs.Fixed.{fixed_by};
     ghost use Rattle.vm_attempt.specs.Invariant.{AlwaysHolds};
     ghost use Rattle.await_trees.specs.contracts.tree.UnresolvedFuture as future;
@@ -53,14 +54,14 @@ impl<H: Handler> Attempt<H> {
     ghost use Rattle.std.specs.Prelude.{◌≡◌, ◌⊎◌, [], IfErr, IfOk, None, Ok};
     ghost use Rattle.invocation_vm.specs.Making.{IsSupported, version_in};
     ghost use Rattle.vm_parts.specs.Outboxes.{WholeStream};
-    ghost use Rattle.vm_steps.specs.Stepping.{MakesAttempt, StepDoes, FeedDoes, FinishDoes, CloseDoes, IfWaits, IsReplaying, Takes, output_len};
+    ghost use Rattle.vm_attempt.specs.Stepping.{MakesAttempt, StepDoes, FeedDoes, FinishDoes, CloseDoes, IfWaits, IsReplaying, Takes, output_len};
     ghost use Rattle.vm_attempt.specs.Attempts.{AnswersAsTold, CarriesNewIds, HasCause, IsHonestlyFed, IsItsOwn, IsWellFed, IsWellFedInReplay, ProvesItsJournal, StepReplays, WaitsRightly};
     ghost use Rattle.vm_machine.specs.Queries.{state_of};
     ghost use Rattle.vm_types.specs.declared.types.State.TheVariants as state;
     ghost use Rattle.vm_attempt.specs.Fixed.{fixed_of};
     ghost use Rattle.vm_attempt.specs.Blames.{IfError};
-    ghost use Rattle.vm_steps.specs.Heard.{proposals_in};
-    ghost use Rattle.vm_steps.specs.Record.{bytes_written};
+    ghost use Rattle.vm_attempt.specs.Heard.{proposals_in};
+    ghost use Rattle.vm_attempt.specs.Record.{bytes_written};
     ghost use Rattle.vm_attempt.specs.Told.{HasCome, written_by};
 
     /// An attempt for the version that the header `content-type` names; the VM's refusals are its own.

@@ -15,9 +15,9 @@ use Rattle.vm_types.specs.declared.types.State.TheVariants as state
 use Rattle.vm_machine.specs.Queries.{state_of}
 use Rattle.invocation_vm.specs.Making.{made}
 use Rattle.vm_model.specs.Calls.{Meaning}
-use Rattle.vm_steps.specs.declared.progress.Progress.{Progress}
-use Rattle.vm_steps.specs.Record.{Record, heard}
-use Rattle.vm_steps.specs.Stepping.{FeedDoes, StepDoes, StepFunction, fresh_record}
+use Rattle.vm_attempt.specs.declared.progress.Progress.{Progress}
+use Rattle.vm_attempt.specs.Record.{Record, heard}
+use Rattle.vm_attempt.specs.Stepping.{FeedDoes, StepDoes, StepFunction, fresh_record}
 use Rattle.vm_attempt.specs.Courses.{Leads}
 use Rattle.vm_attempt.specs.Courses.OneCall.{Feeding, Stepping}
 use Rattle.vm_attempt.specs.Told.{bytes_fed, bytes_in}

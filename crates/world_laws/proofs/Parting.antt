@@ -19,11 +19,11 @@ use Rattle.invocation_vm.specs.Views.{View}
 use Rattle.vm_model.specs.Calls.{Meaning}
 use Rattle.vm_model.specs.Fixed.{Fixed}
 use Rattle.vm_model.specs.Histories.{History}
-use Rattle.vm_steps.specs.declared.progress.Progress.{Progress}
-use Rattle.vm_steps.specs.declared.progress.Reply.{Reply}
-use Rattle.vm_steps.specs.declared.progress.Reply.TheVariants as reply
-use Rattle.vm_steps.specs.Record.{Record, heard}
-use Rattle.vm_steps.specs.Stepping.{Advances, InputIsRead, LacksMemory, MakesStep, StepAt, StepDoes, StepFrom, StepUnless, fresh_record, future_in, progress_of, replied, step_asked}
+use Rattle.vm_attempt.specs.declared.progress.Progress.{Progress}
+use Rattle.vm_attempt.specs.declared.progress.Reply.{Reply}
+use Rattle.vm_attempt.specs.declared.progress.Reply.TheVariants as reply
+use Rattle.vm_attempt.specs.Record.{Record, heard}
+use Rattle.vm_attempt.specs.Stepping.{Advances, InputIsRead, LacksMemory, MakesStep, StepAt, StepDoes, StepFrom, StepUnless, fresh_record, future_in, progress_of, replied, step_asked}
 use Rattle.vm_attempt.specs.Courses.{Leads}
 use Rattle.vm_attempt.specs.Journals.{setup_for}
 use Rattle.vm_attempt.specs.Told.{AnswersInReplay, RefusesReplay, ReplayPremises, StarvesReplay}

@@ -26,10 +26,10 @@ use Rattle.vm_machine.specs.Outcomes.{CalledAt, CalledBy, Outcome, Done, Failed,
 use Rattle.vm_machine.specs.Proposals.{Proposes, Settled, SettledAt, SettledUnless, SettlesAs, earlier_count, earlier_nanos, proposal_fault, proposed, run_at, without_run}
 use Rattle.vm_model.specs.Fixed.{Fixed}
 use Rattle.journal_protocol.specs.Version.TheVariants.{V7}
-use Rattle.vm_steps.specs.Heard.{Heard, proposals_in}
-use Rattle.vm_steps.specs.Record.{Record}
-use Rattle.vm_steps.specs.Stepping.{CloseDoes, CompletesRun, FeedDoes, FinishDoes, StepDoes, StepFunction, Takes, fresh_record, kept_at, newly_proposed, noted_at, with_piece_kept, with_vm}
-use Rattle.vm_steps.specs.declared.progress.Progress.{Progress}
+use Rattle.vm_attempt.specs.Heard.{Heard, proposals_in}
+use Rattle.vm_attempt.specs.Record.{Record}
+use Rattle.vm_attempt.specs.Stepping.{CloseDoes, CompletesRun, FeedDoes, FinishDoes, StepDoes, StepFunction, Takes, fresh_record, kept_at, newly_proposed, noted_at, with_piece_kept, with_vm}
+use Rattle.vm_attempt.specs.declared.progress.Progress.{Progress}
 use Rattle.vm_attempt.specs.Courses.{Leads, OneCall}
 use Rattle.vm_attempt.specs.Courses.OneCall.{Feeding, Closing, Stepping, Telling, Taking}
 use Rattle.vm_attempt.proofs.Under.{step_fed}

@@ -5,9 +5,9 @@ use Rattle.vm_types.specs.declared.types.State.TheVariants as state
 use Rattle.vm_machine.specs.Queries.{state_of}
 use Rattle.invocation_vm.specs.Making.{made}
 use Rattle.vm_model.specs.Fixed.{Fixed}
-use Rattle.vm_steps.specs.declared.progress.Progress.{Progress}
-use Rattle.vm_steps.specs.Record.{Record, heard}
-use Rattle.vm_steps.specs.Stepping.{IsReplaying, StepDoes, fresh_record}
+use Rattle.vm_attempt.specs.declared.progress.Progress.{Progress}
+use Rattle.vm_attempt.specs.Record.{Record, heard}
+use Rattle.vm_attempt.specs.Stepping.{IsReplaying, StepDoes, fresh_record}
 use Rattle.vm_attempt.specs.Courses.{Leads, OneCall}
 use Rattle.vm_attempt.specs.Courses.OneCall.{Feeding, Closing, Stepping, Taking, Telling}
 use Rattle.vm_attempt.specs.Told.{AnswersInReplay, HasCome, IsKeptInReplay, ProvesHistory, ReplayPremises}

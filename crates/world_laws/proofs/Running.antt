@@ -9,11 +9,11 @@ use Rattle.vm_machine.specs.Outcomes.{DoesBy, Done}
 use Rattle.vm_machine.specs.Phases.{is_running}
 use Rattle.invocation_vm.specs.Views.{View}
 use Rattle.vm_model.specs.Fixed.{Fixed}
-use Rattle.vm_steps.specs.declared.progress.Progress.{Progress}
-use Rattle.vm_steps.specs.declared.progress.Reply.{Reply}
-use Rattle.vm_steps.specs.Record.{Record, heard}
-use Rattle.vm_steps.specs.Stepping.{Advances, InputIsRead, LacksMemory, MakesStep, StepAt, StepDoes, StepFrom, StepUnless, future_in, progress_of, replied, step_asked}
-use Rattle.vm_steps.specs.Steps.{Performs, ReadsBack, StepMade}
+use Rattle.vm_attempt.specs.declared.progress.Progress.{Progress}
+use Rattle.vm_attempt.specs.declared.progress.Reply.{Reply}
+use Rattle.vm_attempt.specs.Record.{Record, heard}
+use Rattle.vm_attempt.specs.Stepping.{Advances, InputIsRead, LacksMemory, MakesStep, StepAt, StepDoes, StepFrom, StepUnless, future_in, progress_of, replied, step_asked}
+use Rattle.vm_attempt.specs.Steps.{Performs, ReadsBack, StepMade}
 use Rattle.vm_attempt.specs.Agreement.{CallFollows}
 use Rattle.vm_attempt.specs.Ending.{IsRunning}
 use Rattle.vm_attempt.specs.Journals.{setup_for}

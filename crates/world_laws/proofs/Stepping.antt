@@ -15,13 +15,13 @@ use Rattle.vm_model.specs.Calls.{Setup}
 use Rattle.vm_model.specs.Fixed.{Fixed}
 use Rattle.vm_model.specs.Histories.{IsPrefix}
 use Rattle.vm_model.specs.Moves.{Point}
-use Rattle.vm_steps.specs.declared.progress.Progress.{Progress}
-use Rattle.vm_steps.specs.declared.progress.Progress.TheVariants as progress
-use Rattle.vm_steps.specs.declared.progress.Reply.{Reply}
-use Rattle.vm_steps.specs.declared.progress.Reply.TheVariants as reply
-use Rattle.vm_steps.specs.Heard.{Heard}
-use Rattle.vm_steps.specs.Record.{Record, heard}
-use Rattle.vm_steps.specs.Stepping.{LacksMemory, StepDoes, future_in, progress_of, replied, step_asked}
+use Rattle.vm_attempt.specs.declared.progress.Progress.{Progress}
+use Rattle.vm_attempt.specs.declared.progress.Progress.TheVariants as progress
+use Rattle.vm_attempt.specs.declared.progress.Reply.{Reply}
+use Rattle.vm_attempt.specs.declared.progress.Reply.TheVariants as reply
+use Rattle.vm_attempt.specs.Heard.{Heard}
+use Rattle.vm_attempt.specs.Record.{Record, heard}
+use Rattle.vm_attempt.specs.Stepping.{LacksMemory, StepDoes, future_in, progress_of, replied, step_asked}
 use Rattle.vm_attempt.specs.Agreement.{Agrees, Answered}
 use Rattle.vm_attempt.specs.Ending.{FinishesOn, GoesToEnd, IsRunning}
 use Rattle.vm_attempt.specs.Journals.{setup_for}

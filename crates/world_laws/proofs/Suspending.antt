@@ -9,11 +9,11 @@ use Rattle.vm_model.specs.Fixed.{Fixed}
 use Rattle.vm_model.specs.Histories.{Handed}
 use Rattle.vm_model.proofs.Compared.{attempt_is_told}
 use Rattle.vm_model.proofs.Runs.{made_add}
-use Rattle.vm_steps.specs.declared.progress.Progress.TheVariants as progress
-use Rattle.vm_steps.specs.declared.progress.Reply.{Reply}
-use Rattle.vm_steps.specs.declared.progress.Reply.TheVariants as reply
-use Rattle.vm_steps.specs.Record.{Record, heard}
-use Rattle.vm_steps.specs.Stepping.{LacksMemory, StepDoes, future_in, progress_of, replied, step_asked}
+use Rattle.vm_attempt.specs.declared.progress.Progress.TheVariants as progress
+use Rattle.vm_attempt.specs.declared.progress.Reply.{Reply}
+use Rattle.vm_attempt.specs.declared.progress.Reply.TheVariants as reply
+use Rattle.vm_attempt.specs.Record.{Record, heard}
+use Rattle.vm_attempt.specs.Stepping.{LacksMemory, StepDoes, future_in, progress_of, replied, step_asked}
 use Rattle.vm_attempt.specs.Agreement.{IsSuspended}
 use Rattle.vm_attempt.specs.Ending.{IsRunning}
 use Rattle.vm_attempt.specs.Journals.{setup_for}

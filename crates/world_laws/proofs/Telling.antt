@@ -26,9 +26,9 @@ use Rattle.vm_model.specs.Moves.{start as first_point}
 use Rattle.vm_model.proofs.Runs.{made_after}
 use Rattle.world_laws.specs.Values.{ValueCame}
 use Rattle.world_laws.proofs.Bringing.{run_brings}
-use Rattle.vm_steps.specs.Heard.{Heard, proposals_among, proposals_in}
-use Rattle.vm_steps.specs.Record.{Record, bytes_written}
-use Rattle.vm_steps.specs.Stepping.{CompletesRun, FinishDoes, fresh_record, newly_proposed, noted_at}
+use Rattle.vm_attempt.specs.Heard.{Heard, proposals_among, proposals_in}
+use Rattle.vm_attempt.specs.Record.{Record, bytes_written}
+use Rattle.vm_attempt.specs.Stepping.{CompletesRun, FinishDoes, fresh_record, newly_proposed, noted_at}
 use Rattle.vm_attempt.proofs.Quiet.{proposals_append}
 use Rattle.vm_attempt.proofs.Under.{close_fed, step_fed}
 use Rattle.world_laws.proofs.Proposing.{Becomes, each, grown, reported}

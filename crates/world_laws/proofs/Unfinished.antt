@@ -37,11 +37,11 @@ use Rattle.vm_model.specs.Moves.{after, start}
 use Rattle.vm_model.proofs.Compared.{wrote_left}
 use Rattle.vm_model.proofs.Runs.{made_after}
 use Rattle.vm_model.proofs.Uses.{commands_used}
-use Rattle.vm_steps.specs.declared.progress.Progress.TheVariants as progress
-use Rattle.vm_steps.specs.Heard.{Heard, acknowledged_from}
-use Rattle.vm_steps.specs.declared.progress.Fed.{Fed}
-use Rattle.vm_steps.specs.Record.{Record, heard}
-use Rattle.vm_steps.specs.Stepping.{CompletesRun, FinishDoes, StepDoes, fresh_record, newly_proposed, noted_at, with_vm}
+use Rattle.vm_attempt.specs.declared.progress.Progress.TheVariants as progress
+use Rattle.vm_attempt.specs.Heard.{Heard, acknowledged_from}
+use Rattle.vm_attempt.specs.declared.progress.Fed.{Fed}
+use Rattle.vm_attempt.specs.Record.{Record, heard}
+use Rattle.vm_attempt.specs.Stepping.{CompletesRun, FinishDoes, StepDoes, fresh_record, newly_proposed, noted_at, with_vm}
 use Rattle.vm_attempt.specs.Arrivals.{AllFound, arriving, kept_after}
 use Rattle.vm_attempt.specs.Courses.{Leads, OneCall}
 use Rattle.vm_attempt.specs.Courses.OneCall.{Feeding, Closing, Stepping, Taking, Telling}

@@ -1,10 +1,10 @@
 -- How many steps bring an attempt to its handler's end.
 use Rattle.std.specs.Prelude.{◌≡◌, ◌≤◌, ℕ, zero, suc, length, Ok}
 use Rattle.vm_model.specs.Fixed.{Fixed}
-use Rattle.vm_steps.specs.declared.progress.Progress.TheVariants as progress
-use Rattle.vm_steps.specs.Heard.{Heard}
-use Rattle.vm_steps.specs.Record.{Record}
-use Rattle.vm_steps.specs.Stepping.{StepDoes, StepFunction}
+use Rattle.vm_attempt.specs.declared.progress.Progress.TheVariants as progress
+use Rattle.vm_attempt.specs.Heard.{Heard}
+use Rattle.vm_attempt.specs.Record.{Record}
+use Rattle.vm_attempt.specs.Stepping.{StepDoes, StepFunction}
 use Rattle.vm_attempt.specs.Ending.{FinishesOn}
 use Rattle.vm_attempt.specs.Told.{Journal}
 

@@ -16,9 +16,9 @@ use Rattle.invocation_vm.specs.Making.{made, supported}
 use Rattle.vm_model.specs.Calls.{Meaning}
 use Rattle.vm_model.specs.Fixed.{Fixed}
 use Rattle.vm_model.specs.Histories.{History}
-use Rattle.vm_steps.specs.declared.progress.Progress.{Progress}
-use Rattle.vm_steps.specs.Record.{Record, heard}
-use Rattle.vm_steps.specs.Stepping.{FeedDoes, StepDoes, StepFunction, fresh_record}
+use Rattle.vm_attempt.specs.declared.progress.Progress.{Progress}
+use Rattle.vm_attempt.specs.Record.{Record, heard}
+use Rattle.vm_attempt.specs.Stepping.{FeedDoes, StepDoes, StepFunction, fresh_record}
 use Rattle.vm_attempt.specs.Journals.{setup_for}
 use Rattle.vm_attempt.specs.Told.{RefusesReplay, bytes_fed}
 use Rattle.world_rounds.specs.declared.types.Round.{Round}

@@ -8,8 +8,8 @@ use Rattle.vm_runs.specs.Settling.{SettlesRun}
 use Rattle.vm_runs.specs.declared.pending.PendingRun.{PendingRun}
 use Rattle.vm_runs.specs.declared.settling.Settlement.TheVariants as settlement
 use Rattle.vm_machine.specs.Proposals.{earlier_count, earlier_nanos, run_at}
-use Rattle.vm_steps.specs.Record.{Record}
-use Rattle.vm_steps.specs.Stepping.{FinishDoes, StepFunction}
+use Rattle.vm_attempt.specs.Record.{Record}
+use Rattle.vm_attempt.specs.Stepping.{FinishDoes, StepFunction}
 use Rattle.vm_attempt.specs.Courses.{Leads}
 
 -- One of the calls between these records reported the outcome of executing the run of this handle,

@@ -20,7 +20,7 @@ use Rattle.vm_model.specs.Cancels.{present_in}
 use Rattle.vm_model.specs.Fixed.{Fixed}
 use Rattle.vm_model.specs.Histories.{IsAwaiting, IsPrefix, arrivals_used}
 use Rattle.vm_model.specs.Moves.{Point, after, later, move_at, next}
-use Rattle.vm_steps.specs.Record.{Record, heard}
+use Rattle.vm_attempt.specs.Record.{Record, heard}
 use Rattle.vm_attempt.specs.Agreement.{IsLeftOf, awaited_tree, suspended_on}
 use Rattle.vm_attempt.specs.Journals.{setup_for}
 use Rattle.vm_attempt.specs.Told.{IsToldPoint, Journal}

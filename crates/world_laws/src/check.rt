@@ -5,7 +5,7 @@ ghost use Rattle.journal_entries.specs.Given.{GivenFaults};
 ghost use Rattle.journal_entries.specs.declared.fault.JournalFault.TheVariants as journal_fault;
 ghost use Rattle.vm_model.specs.Calls.{Meaning};
 ghost use Rattle.invocation_vm.specs.Making.{IsSupported, made};
-ghost use Rattle.vm_steps.specs.Stepping.{fresh_record};
+ghost use Rattle.vm_attempt.specs.Stepping.{fresh_record};
 ghost use Rattle.world_rounds.specs.Guarantees.{HasOneResultEach, HasRightReads, IsHistory, IsReplayable};
 ghost use Rattle.world_rounds.specs.Rounds.{ReplaysAndQueues};
 ghost use Rattle.world_rounds.specs.Worlds.{IsJournal};

@@ -5,9 +5,9 @@ ghost use Rattle.await_trees.specs.declared.handle.NotificationHandle.{Notificat
 ghost use Rattle.invocation_vm.specs.Making.{made};
 ghost use Rattle.journal_entries.specs.JournalFrames.{notifications_among};
 ghost use Rattle.vm_model.specs.Fixed.{Fixed};
-ghost use Rattle.vm_steps.specs.declared.progress.Progress.TheVariants as progress;
-ghost use Rattle.vm_steps.specs.Record.{Record, heard};
-ghost use Rattle.vm_steps.specs.Stepping.{StepDoes, fresh_record};
+ghost use Rattle.vm_attempt.specs.declared.progress.Progress.TheVariants as progress;
+ghost use Rattle.vm_attempt.specs.Record.{Record, heard};
+ghost use Rattle.vm_attempt.specs.Stepping.{StepDoes, fresh_record};
 ghost use Rattle.vm_attempt.specs.Courses.{Leads};
 ghost use Rattle.vm_attempt.specs.Told.{Journal, Premises};
 ghost use Rattle.world_laws.specs.Unfinished.{HasNoResult};

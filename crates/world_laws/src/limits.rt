@@ -3,10 +3,10 @@ ghost use Rattle.std.specs.Prelude.{◌≡◌, ◌⊎◌, ◌≤◌, ◌+◌, �
 ghost use Rattle.journal_protocol.specs.Error.{Error};
 ghost use Rattle.journal_protocol.specs.Errors.{no_memory};
 ghost use Rattle.vm_model.specs.Fixed.{Fixed};
-ghost use Rattle.vm_steps.specs.declared.progress.Progress.{Progress};
-ghost use Rattle.vm_steps.specs.declared.progress.Progress.TheVariants as progress;
-ghost use Rattle.vm_steps.specs.Record.{Record, heard};
-ghost use Rattle.vm_steps.specs.Stepping.{StepDoes};
+ghost use Rattle.vm_attempt.specs.declared.progress.Progress.{Progress};
+ghost use Rattle.vm_attempt.specs.declared.progress.Progress.TheVariants as progress;
+ghost use Rattle.vm_attempt.specs.Record.{Record, heard};
+ghost use Rattle.vm_attempt.specs.Stepping.{StepDoes};
 ghost use Rattle.vm_attempt.specs.Ending.{IsRunning};
 ghost use Rattle.vm_attempt.specs.Told.{IsKeptUnder, Premises};
 ghost use Rattle.world_laws.specs.Limits.{EndsWithin, StepsAnswered};

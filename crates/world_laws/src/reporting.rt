@@ -4,8 +4,8 @@ ghost use Rattle.std.specs.List.{AllByRecursion};
 ghost use Rattle.std.proofs.Common.{Global};
 ghost use Rattle.invocation_vm.specs.Making.{made};
 ghost use Rattle.vm_model.specs.Fixed.{Fixed};
-ghost use Rattle.vm_steps.specs.Record.{Record};
-ghost use Rattle.vm_steps.specs.Stepping.{fresh_record};
+ghost use Rattle.vm_attempt.specs.Record.{Record};
+ghost use Rattle.vm_attempt.specs.Stepping.{fresh_record};
 ghost use Rattle.vm_attempt.specs.Courses.{Leads};
 ghost use Rattle.world_laws.specs.Reports.{WasReported};
 

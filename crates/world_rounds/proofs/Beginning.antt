@@ -7,8 +7,8 @@ use Rattle.journal_protocol.specs.Frames.{encoding, IsWhole}
 use Rattle.invocation_vm.specs.Making.{IsSupported, made}
 use Rattle.vm_types.specs.declared.options.VMOptions.{VMOptions}
 use Rattle.vm_model.specs.Calls.{Meaning}
-use Rattle.vm_steps.specs.Record.{Record}
-use Rattle.vm_steps.specs.Stepping.{fresh_record}
+use Rattle.vm_attempt.specs.Record.{Record}
+use Rattle.vm_attempt.specs.Stepping.{fresh_record}
 use Rattle.world_rounds.specs.declared.types.Round.{Round}
 use Rattle.journal_entries.specs.declared.fault.JournalFault.{JournalFault}
 use Rattle.world_rounds.specs.declared.types.Setting.{Setting}

@@ -9,8 +9,8 @@ use Rattle.vm_model.specs.Calls.{Meaning}
 use Rattle.vm_model.specs.HonestRounds.{IsOneRun}
 use Rattle.vm_model.specs.Histories.{Honest}
 use Rattle.vm_model.specs.Fixed.{Fixed, fixed_by}
-use Rattle.vm_steps.specs.Record.{AttemptView, Record}
-use Rattle.vm_steps.specs.Stepping.{fresh_record}
+use Rattle.vm_attempt.specs.Record.{AttemptView, Record}
+use Rattle.vm_attempt.specs.Stepping.{fresh_record}
 use Rattle.world_rounds.specs.declared.types.Event.{Event}
 use Rattle.world_rounds.specs.declared.types.Round.{Round}
 use Rattle.world_rounds.specs.declared.types.Setting.{Setting}

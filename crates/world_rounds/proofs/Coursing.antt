@@ -16,10 +16,10 @@ use Rattle.vm_model.proofs.Lasting.{commands-append, notifications-append}
 use Rattle.journal_protocol.specs.Version.{Version}
 use Rattle.journal_protocol.specs.ProposeRunCompletion.{ProposeRunCompletion}
 use Rattle.vm_attempt.specs.Arrivals.{AllFound, arriving, kept_after, kept_behind}
-use Rattle.vm_steps.specs.Heard.{acknowledged_from, proposals_among}
+use Rattle.vm_attempt.specs.Heard.{acknowledged_from, proposals_among}
 use Rattle.journal_entries.specs.JournalFrames.{commands_among}
-use Rattle.vm_steps.specs.Record.{Record, bytes_written, heard}
-use Rattle.vm_steps.specs.Stepping.{output_taken}
+use Rattle.vm_attempt.specs.Record.{Record, bytes_written, heard}
+use Rattle.vm_attempt.specs.Stepping.{output_taken}
 use Rattle.vm_attempt.specs.Told.{arrivals_of, bytes_in, frames_fed, written_by}
 use Rattle.vm_attempt.proofs.Finishing.{acknowledged_more}
 use Rattle.vm_attempt.proofs.Pieces.{commands_append, more_frames}

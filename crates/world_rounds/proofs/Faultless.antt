@@ -37,8 +37,8 @@ use Rattle.vm_attempt.proofs.Numbers.{carried_append}
 use Rattle.vm_attempt.proofs.Pieces.{commands_append}
 use Rattle.vm_attempt.proofs.Replayed.{commands_same, notes_same}
 use Rattle.vm_attempt.proofs.Written.{Fits, frames_spelled, taken_first, written_is}
-use Rattle.vm_steps.specs.Record.{Record, heard}
-use Rattle.vm_steps.specs.Stepping.{StepDoes, fresh_record, output_taken}
+use Rattle.vm_attempt.specs.Record.{Record, heard}
+use Rattle.vm_attempt.specs.Stepping.{StepDoes, fresh_record, output_taken}
 use Rattle.world_rounds.specs.declared.types.Event.{Event}
 use Rattle.world_rounds.specs.declared.types.Event.TheVariants as event
 use Rattle.world_rounds.specs.declared.types.Round.{Round}
@@ -60,7 +60,7 @@ use Rattle.world_rounds.specs.Executing.{Executes, IsUnfinished}
 use Rattle.world_rounds.specs.Sound.{IsSoundFor}
 use Rattle.world_rounds.proofs.Unfinished.{FreeRun, events_none, pending_free, steps_none}
 use Rattle.await_trees.specs.declared.handle.NotificationHandle.{NotificationHandle}
-use Rattle.vm_steps.specs.declared.progress.Progress.TheVariants as progress
+use Rattle.vm_attempt.specs.declared.progress.Progress.TheVariants as progress
 use Rattle.vm_attempt.proofs.Executing.{ExecutesNone, step_hands}
 use Rattle.world_rounds.proofs.Completing.{input_carries_none}
 use Rattle.world_rounds.proofs.Keeping.{Going, event_keeps, one_note}

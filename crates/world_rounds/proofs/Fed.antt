@@ -38,7 +38,7 @@ use Rattle.vm_attempt.proofs.Entries.{not_both}
 use Rattle.vm_attempt.proofs.Proposed.{arriving_append, arriving_notified, found_append, kept_all, none_found}
 use Rattle.vm_attempt.proofs.Replayed.{commands_same, head_same, notes_same, tail_same}
 use Rattle.vm_attempt.proofs.Under.{fewer_waiting}
-use Rattle.vm_steps.specs.Heard.{Heard}
+use Rattle.vm_attempt.specs.Heard.{Heard}
 use Rattle.journal_entries.specs.Entries.{may_stand}
 use Rattle.journal_entries.proofs.Framing.{note_acknowledges_nothing, note_no_command, same_front}
 use Rattle.world_rounds.specs.Rounds.{ReplaysAndQueues}

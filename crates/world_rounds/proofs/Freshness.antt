@@ -11,7 +11,7 @@ use Rattle.journal_entries.specs.Carried.{AreGreater, all_carried}
 use Rattle.journal_entries.specs.Frames.{frames_of}
 use Rattle.vm_model.specs.Calls.{Meaning}
 use Rattle.journal_entries.specs.Journal.{stored_form}
-use Rattle.vm_steps.specs.Record.{heard}
+use Rattle.vm_attempt.specs.Record.{heard}
 use Rattle.journal_entries.specs.JournalFrames.{commands_among}
 use Rattle.vm_attempt.specs.Told.{HasFreshIds, Journal, written_by}
 use Rattle.vm_attempt.proofs.Numbers.{carried_append}

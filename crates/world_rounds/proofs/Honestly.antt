@@ -30,8 +30,8 @@ use Rattle.vm_attempt.specs.Journals.{setup_for}
 use Rattle.vm_attempt.specs.Told.{BeforeInput, IsKept, HandlerRuns, Wrote, frames_fed}
 use Rattle.vm_attempt.proofs.Pieces.{commands_append}
 use Rattle.vm_attempt.proofs.Replayed.{commands_same, notes_same}
-use Rattle.vm_steps.specs.Heard.{acknowledged_from, proposals_among}
-use Rattle.vm_steps.specs.Record.{all_heard, heard}
+use Rattle.vm_attempt.specs.Heard.{acknowledged_from, proposals_among}
+use Rattle.vm_attempt.specs.Record.{all_heard, heard}
 use Rattle.world_rounds.specs.declared.types.Setting.{Setting}
 use Rattle.journal_entries.specs.Entries.{AreEntries, journal_entries, frame_in, framed_by, journal_frames, may_stand, notes_in}
 use Rattle.world_rounds.specs.States.{HaveTextKeys}

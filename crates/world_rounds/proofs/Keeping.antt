@@ -13,10 +13,10 @@ use Rattle.journal_entries.specs.Frames.{Tail, frames_of}
 use Rattle.journal_protocol.specs.ProposeRunCompletion.{ProposeRunCompletion}
 use Rattle.vm_model.specs.Calls.{Meaning}
 use Rattle.vm_model.specs.Histories.{IsPrefix}
-use Rattle.vm_steps.specs.Heard.{proposals_among, proposals_in}
+use Rattle.vm_attempt.specs.Heard.{proposals_among, proposals_in}
 use Rattle.journal_entries.specs.JournalFrames.{commands_among, is_command_frame, is_notification, notified_by}
-use Rattle.vm_steps.specs.Record.{Record, bytes_written}
-use Rattle.vm_steps.specs.Stepping.{output_taken}
+use Rattle.vm_attempt.specs.Record.{Record, bytes_written}
+use Rattle.vm_attempt.specs.Stepping.{output_taken}
 use Rattle.vm_attempt.specs.Told.{bytes_in}
 use Rattle.vm_attempt.proofs.Pieces.{commands_append}
 use Rattle.vm_attempt.proofs.Quiet.{proposals_append}

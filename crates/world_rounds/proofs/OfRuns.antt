@@ -9,7 +9,7 @@ use Rattle.journal_entries.specs.declared.storing.Written.TheVariants.{Command, 
 use Rattle.journal_entries.specs.Storing.{stored_as, written_among}
 use Rattle.journal_entries.specs.declared.fault.JournalFault.{JournalFault}
 use Rattle.vm_model.specs.Calls.{Meaning}
-use Rattle.vm_steps.specs.Record.{AttemptView, Record}
+use Rattle.vm_attempt.specs.Record.{AttemptView, Record}
 use Rattle.world_rounds.specs.declared.desk.Desk.{Desk}
 use Rattle.world_rounds.specs.declared.types.Event.{Event}
 use Rattle.world_rounds.specs.declared.types.Event.TheVariants as event

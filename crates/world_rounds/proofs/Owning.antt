@@ -27,9 +27,9 @@ use Rattle.vm_attempt.proofs.Erring.{step_blames}
 use Rattle.vm_attempt.proofs.Finishing.{finish_blame, finish_blames, finish_late}
 use Rattle.vm_attempt.proofs.Late.{close_late, feed_late, step_blame, step_late, take_late}
 use Rattle.vm_attempt.proofs.Replayed.{honest_fails}
-use Rattle.vm_steps.specs.declared.progress.Progress.{Progress}
-use Rattle.vm_steps.specs.Record.{Record, all_heard, all_said}
-use Rattle.vm_steps.specs.Stepping.{StepDoes, fresh_record}
+use Rattle.vm_attempt.specs.declared.progress.Progress.{Progress}
+use Rattle.vm_attempt.specs.Record.{Record, all_heard, all_said}
+use Rattle.vm_attempt.specs.Stepping.{StepDoes, fresh_record}
 use Rattle.world_rounds.specs.declared.types.Event.{Event}
 use Rattle.world_rounds.specs.declared.types.Event.TheVariants as event
 use Rattle.world_rounds.specs.declared.types.Round.{Round}

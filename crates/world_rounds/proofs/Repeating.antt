@@ -12,12 +12,12 @@ use Rattle.vm_machine.specs.Inputs.{input_step}
 use Rattle.vm_machine.specs.Outcomes.{Failed, IsStarved, called}
 use Rattle.vm_machine.specs.Phases.{is_running}
 use Rattle.vm_model.specs.Calls.{Meaning}
-use Rattle.vm_steps.specs.declared.progress.Progress.{Progress}
-use Rattle.vm_steps.specs.declared.progress.Progress.TheVariants as progress
-use Rattle.vm_steps.specs.declared.progress.Reply.{Reply}
-use Rattle.vm_steps.specs.declared.progress.Reply.TheVariants as reply
-use Rattle.vm_steps.specs.Record.{Record}
-use Rattle.vm_steps.specs.Stepping.{Advances, MakesStep, LacksMemory, InputIsRead, StepAt, StepDoes, StepFrom, StepUnless, future_in, progress_of, replied, step_asked}
+use Rattle.vm_attempt.specs.declared.progress.Progress.{Progress}
+use Rattle.vm_attempt.specs.declared.progress.Progress.TheVariants as progress
+use Rattle.vm_attempt.specs.declared.progress.Reply.{Reply}
+use Rattle.vm_attempt.specs.declared.progress.Reply.TheVariants as reply
+use Rattle.vm_attempt.specs.Record.{Record}
+use Rattle.vm_attempt.specs.Stepping.{Advances, MakesStep, LacksMemory, InputIsRead, StepAt, StepDoes, StepFrom, StepUnless, future_in, progress_of, replied, step_asked}
 use Rattle.vm_attempt.specs.Told.{IsLive}
 use Rattle.vm_attempt.proofs.Erring.{called_failed}
 use Rattle.vm_attempt.proofs.Sending.{IsLeft, step_leaves}

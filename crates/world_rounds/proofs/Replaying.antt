@@ -8,7 +8,7 @@ use Rattle.journal_protocol.specs.Error.{Error}
 use Rattle.journal_protocol.specs.Version.{Version}
 use Rattle.vm_types.specs.declared.options.VMOptions.{VMOptions}
 use Rattle.vm_model.specs.Fixed.{fixed_by}
-use Rattle.vm_steps.specs.declared.progress.Progress.{Progress}
+use Rattle.vm_attempt.specs.declared.progress.Progress.{Progress}
 use Rattle.vm_attempt.proofs.Under.{step_fed}
 use Rattle.std.proofs.lemmas.List.{take_all}
 use Rattle.journal_protocol.specs.Start.{Start}
@@ -30,9 +30,9 @@ use Rattle.vm_attempt.specs.Told.{Journal, MovesTo, ProvesHistory, ReplayPremise
 use Rattle.vm_attempt.proofs.Proving.{alone_arrivals}
 use Rattle.vm_attempt.proofs.Replayed.{commands_same, head_same, tail_same}
 use Rattle.invocation_vm.specs.Making.{made}
-use Rattle.vm_steps.specs.Heard.{Heard}
-use Rattle.vm_steps.specs.Record.{Record, heard}
-use Rattle.vm_steps.specs.Stepping.{FeedDoes, StepDoes, fresh_record}
+use Rattle.vm_attempt.specs.Heard.{Heard}
+use Rattle.vm_attempt.specs.Record.{Record, heard}
+use Rattle.vm_attempt.specs.Stepping.{FeedDoes, StepDoes, fresh_record}
 use Rattle.world_rounds.specs.declared.types.Round.{Round}
 use Rattle.world_rounds.specs.declared.types.Setting.{Setting}
 use Rattle.journal_entries.specs.Entries.{journal_entries, journal_frames}

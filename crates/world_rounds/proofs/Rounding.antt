@@ -23,10 +23,10 @@ use Rattle.vm_model.proofs.Honesty.{honest_rounds, whole_round, whole_rounds}
 use Rattle.vm_model.proofs.SoundHistories.{run_is_sound, sound_round, sound_rounds, whole_is_honest}
 use Rattle.journal_protocol.specs.Version.{Version}
 use Rattle.vm_attempt.specs.Arrivals.{arriving}
-use Rattle.vm_steps.specs.Heard.{acknowledged_from}
+use Rattle.vm_attempt.specs.Heard.{acknowledged_from}
 use Rattle.journal_entries.specs.JournalFrames.{commands_among}
-use Rattle.vm_steps.specs.Record.{Record}
-use Rattle.vm_steps.specs.Stepping.{fresh_record}
+use Rattle.vm_attempt.specs.Record.{Record}
+use Rattle.vm_attempt.specs.Stepping.{fresh_record}
 use Rattle.vm_attempt.specs.Told.{bytes_in}
 use Rattle.vm_attempt.proofs.Advanced.{made_new}
 use Rattle.vm_attempt.proofs.Coming.{made_comes}

@@ -27,8 +27,8 @@ use Rattle.journal_entries.specs.JournalFrames.{commands_among}
 use Rattle.vm_attempt.specs.Journals.{setup_for}
 use Rattle.vm_attempt.specs.Told.{BeforeInput, HasCome, IsKept, Journal, NoneHasTwo, HandlerRuns, Wrote, arrivals, begun, start_state}
 use Rattle.vm_attempt.specs.Arrivals.{arriving}
-use Rattle.vm_steps.specs.Heard.{acknowledged_from}
-use Rattle.vm_steps.specs.Record.{heard}
+use Rattle.vm_attempt.specs.Heard.{acknowledged_from}
+use Rattle.vm_attempt.specs.Record.{heard}
 use Rattle.vm_attempt.proofs.Advanced.{step_keeps}
 use Rattle.vm_attempt.proofs.Coming.{close_comes, feed_comes, step_comes, take_comes}
 use Rattle.vm_attempt.proofs.Finishing.{finish_comes, finish_keeps}

@@ -61,8 +61,8 @@ use Rattle.vm_awaits.specs.Awaits.{Awaits, AwaitsAt, AwaitsBy, Behind, AwaitComp
 use Rattle.vm_awaits.specs.Cancels.{AwaitsWhole, Cancels, FinishesIf, Onward, SendsCancel, sends_cancels}
 use Rattle.vm_awaits.proofs.Cancelling.{read_known, woken_used}
 use Rattle.invocation_vm.specs.Calls.{new_awakeable_step}
-use Rattle.vm_steps.specs.declared.progress.Reply.{Reply}
-use Rattle.vm_steps.specs.Steps.{AllCarried, IsReadable, Performs, PerformsBy, ReadsBack, mapped}
+use Rattle.vm_attempt.specs.declared.progress.Reply.{Reply}
+use Rattle.vm_attempt.specs.Steps.{AllCarried, IsReadable, Performs, PerformsBy, ReadsBack, mapped}
 
 -- ---- the ids of pending runs
 

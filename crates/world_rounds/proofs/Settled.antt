@@ -22,7 +22,7 @@ use Rattle.vm_model.specs.Carried.{AreCarried, is_carried}
 use Rattle.journal_entries.specs.Journal.{stored_form}
 use Rattle.vm_model.proofs.Once.{still_carried}
 use Rattle.vm_attempt.specs.Arrivals.{AllFound, FindsProposal, IsOfKept, arriving, kept_after, acknowledged_as, unacknowledged}
-use Rattle.vm_steps.specs.Heard.{acknowledged_from, proposals_among, proposed_by}
+use Rattle.vm_attempt.specs.Heard.{acknowledged_from, proposals_among, proposed_by}
 use Rattle.journal_entries.specs.JournalFrames.{commands_among, is_acknowledgement, is_command_frame, is_notification, notifications_among, notified_by, is_proposal}
 use Rattle.vm_attempt.proofs.Advanced.{nothing_acknowledged}
 use Rattle.vm_attempt.proofs.Arriving.{arriving_alone, kept_none}

@@ -7,7 +7,7 @@ use Rattle.journal_entries.specs.Frames.{Tail, frames_of}
 use Rattle.journal_protocol.specs.ProposeRunCompletion.{ProposeRunCompletion}
 use Rattle.vm_model.specs.Calls.{Meaning}
 use Rattle.journal_entries.specs.JournalFrames.{notified_by}
-use Rattle.vm_steps.specs.Heard.{proposals_among, proposals_in}
+use Rattle.vm_attempt.specs.Heard.{proposals_among, proposals_in}
 use Rattle.vm_attempt.proofs.Quiet.{proposals_append}
 use Rattle.journal_entries.specs.declared.storing.Written.{Written}
 use Rattle.world_rounds.specs.declared.types.Event.{Event}

@@ -10,7 +10,7 @@ use Rattle.vm_attempt.specs.Courses.{OneCall}
 use Rattle.vm_attempt.specs.Courses.OneCall.{Feeding, Closing, Stepping, Telling}
 use Rattle.vm_attempt.proofs.Ahead.{HasRunOf}
 use Rattle.vm_attempt.proofs.Executing.{ExecutesNone, call_keeps}
-use Rattle.vm_steps.specs.Record.{Record}
+use Rattle.vm_attempt.specs.Record.{Record}
 use Rattle.world_rounds.specs.declared.types.Event.{Event}
 use Rattle.world_rounds.specs.declared.types.Event.TheVariants as event
 use Rattle.journal_entries.specs.Arrivals.{completes_id}

@@ -33,12 +33,12 @@ use Rattle.invocation_vm.specs.Views.{View, after_closing, after_input, left_by}
 use Rattle.invocation_vm.proofs.Feeds.{among_output}
 use Rattle.vm_model.specs.Calls.{Meaning}
 use Rattle.vm_model.specs.Histories.{IsPrefix}
-use Rattle.vm_steps.specs.declared.progress.Progress.{Progress}
-use Rattle.vm_steps.specs.declared.progress.Reply.{Reply}
-use Rattle.vm_steps.specs.declared.progress.Reply.TheVariants as reply
-use Rattle.vm_steps.specs.Record.{Record, bytes_written}
-use Rattle.vm_steps.specs.Stepping.{Advances, MakesStep, CloseDoes, InputIsClosed, FeedDoes, FeedsPiece, FinishDoes, InputIsRead, StepAt, StepDoes, StepFrom, StepUnless, future_in, kept_at, replied, step_asked, with_vm}
-use Rattle.vm_steps.specs.Steps.{AllCarried, Awaited, Performs, PerformsBy, mapped}
+use Rattle.vm_attempt.specs.declared.progress.Progress.{Progress}
+use Rattle.vm_attempt.specs.declared.progress.Reply.{Reply}
+use Rattle.vm_attempt.specs.declared.progress.Reply.TheVariants as reply
+use Rattle.vm_attempt.specs.Record.{Record, bytes_written}
+use Rattle.vm_attempt.specs.Stepping.{Advances, MakesStep, CloseDoes, InputIsClosed, FeedDoes, FeedsPiece, FinishDoes, InputIsRead, StepAt, StepDoes, StepFrom, StepUnless, future_in, kept_at, replied, step_asked, with_vm}
+use Rattle.vm_attempt.specs.Steps.{AllCarried, Awaited, Performs, PerformsBy, mapped}
 use Rattle.vm_laws.proofs.Outputs.{all_writes, whole_writes}
 use Rattle.vm_attempt.proofs.Finishing.{finished}
 use Rattle.vm_attempt.proofs.Quiet.{input_quiet}

@@ -4,7 +4,7 @@ use Rattle.std.proofs.Common.{Global}
 use Rattle.journal_protocol.specs.Error.{Error}
 use Rattle.journal_protocol.specs.Frames.{IsWhole}
 use Rattle.vm_model.specs.Calls.{Meaning}
-use Rattle.vm_steps.specs.Record.{AttemptView}
+use Rattle.vm_attempt.specs.Record.{AttemptView}
 use Rattle.invocation_vm.specs.Making.{IsSupported, supported}
 use Rattle.vm_attempt.specs.Fixed.{fixed_of}
 use Rattle.world_rounds.specs.declared.types.Event.{Event}

@@ -12,7 +12,7 @@ use Rattle.vm_model.specs.Histories.{Knowledge}
 use Rattle.vm_model.specs.HonestRounds.{Attempted, HonestRounds}
 use Rattle.journal_entries.specs.Journal.{Entry, Recorded, Notified}
 use Rattle.journal_protocol.specs.Version.{Version}
-use Rattle.vm_steps.specs.Record.{Record, heard}
+use Rattle.vm_attempt.specs.Record.{Record, heard}
 use Rattle.vm_attempt.specs.Told.{arrivals_of, written_by}
 use Rattle.world_rounds.specs.declared.types.Event.{Event}
 use Rattle.world_rounds.specs.declared.types.Round.{Round}

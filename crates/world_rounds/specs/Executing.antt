@@ -6,9 +6,9 @@ use Rattle.await_trees.specs.declared.handle.NotificationHandle.{NotificationHan
 use Rattle.vm_runs.specs.Pending.{handle_of}
 use Rattle.vm_runs.specs.declared.pending.PendingRun.{PendingRun}
 use Rattle.vm_model.specs.Calls.{Meaning}
-use Rattle.vm_steps.specs.declared.progress.Progress.TheVariants.{ExecuteRun}
-use Rattle.vm_steps.specs.Record.{Record}
-use Rattle.vm_steps.specs.Stepping.{StepDoes}
+use Rattle.vm_attempt.specs.declared.progress.Progress.TheVariants.{ExecuteRun}
+use Rattle.vm_attempt.specs.Record.{Record}
+use Rattle.vm_attempt.specs.Stepping.{StepDoes}
 use Rattle.world_rounds.specs.declared.types.Event.{Event}
 use Rattle.world_rounds.specs.declared.types.Round.{Round}
 use Rattle.world_rounds.specs.declared.types.Setting.{Setting}

@@ -1,9 +1,9 @@
 -- What the fields of a round on its way say, and which answers of a step are followed by another.
 use Rattle.std.specs.Prelude.{Bool, true, false, Result, Ok, Err}
 use Rattle.journal_protocol.specs.Error.{Error}
-use Rattle.vm_steps.specs.declared.progress.Progress.{Progress}
-use Rattle.vm_steps.specs.declared.progress.Progress.TheVariants as progress
-use Rattle.vm_steps.specs.Record.{Record}
+use Rattle.vm_attempt.specs.declared.progress.Progress.{Progress}
+use Rattle.vm_attempt.specs.declared.progress.Progress.TheVariants as progress
+use Rattle.vm_attempt.specs.Record.{Record}
 use Rattle.world_rounds.specs.declared.desk.Desk.{Desk}
 use Rattle.world_rounds.specs.declared.types.Report.{Report}
 use Rattle.world_rounds.specs.Rounds.{Now, ReportView}

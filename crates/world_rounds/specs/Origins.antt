@@ -4,7 +4,7 @@ use Rattle.std.specs.List.{AllByRecursion}
 use Rattle.journal_protocol.specs.Notification.{Notification}
 use Rattle.journal_entries.specs.Proposals.{acknowledged_completion}
 use Rattle.journal_protocol.specs.ProposeRunCompletion.{ProposeRunCompletion}
-use Rattle.vm_steps.specs.Heard.{proposals_in}
+use Rattle.vm_attempt.specs.Heard.{proposals_in}
 use Rattle.journal_entries.specs.Entries.{note_in, notes_in}
 use Rattle.journal_entries.specs.Storing.{stored_as, written_from}
 use Rattle.journal_entries.specs.declared.storing.Written.{Written}

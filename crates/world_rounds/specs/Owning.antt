@@ -5,7 +5,7 @@ use Rattle.std.proofs.Common.{inl, inr}
 use Rattle.journal_protocol.specs.Error.{Error}
 use Rattle.invocation_vm.specs.Making.{supported}
 use Rattle.vm_model.specs.Calls.{Meaning}
-use Rattle.vm_steps.specs.Record.{all_heard, all_said}
+use Rattle.vm_attempt.specs.Record.{all_heard, all_said}
 use Rattle.vm_attempt.specs.Blames.{IsOwnError}
 use Rattle.world_rounds.specs.declared.types.Event.{Event}
 use Rattle.world_rounds.specs.declared.types.Round.{Round}

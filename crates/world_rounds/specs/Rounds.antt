@@ -20,11 +20,11 @@ use Rattle.vm_model.specs.Moves.{Point}
 use Rattle.vm_model.specs.Deliveries.{HasNoTwo}
 use Rattle.journal_protocol.specs.InputCommand.{InputCommand}
 use Rattle.journal_protocol.specs.RawMessage.{RawMessage}
-use Rattle.vm_steps.specs.declared.progress.Progress.{Progress}
-use Rattle.vm_steps.specs.Heard.{proposals_in}
-use Rattle.vm_steps.specs.Record.{Record, bytes_written, heard}
+use Rattle.vm_attempt.specs.declared.progress.Progress.{Progress}
+use Rattle.vm_attempt.specs.Heard.{proposals_in}
+use Rattle.vm_attempt.specs.Record.{Record, bytes_written, heard}
 use Rattle.vm_attempt.specs.Told.{AnswersAreTold, NumbersFreshly, Premises, written_by}
-use Rattle.vm_steps.specs.Stepping.{CloseDoes, FeedDoes, FinishDoes, StepDoes, fresh_record, output_taken}
+use Rattle.vm_attempt.specs.Stepping.{CloseDoes, FeedDoes, FinishDoes, StepDoes, fresh_record, output_taken}
 use Rattle.world_rounds.specs.declared.types.Event.{Event}
 use Rattle.world_rounds.specs.declared.types.Event.TheVariants as event
 use Rattle.world_rounds.specs.declared.types.Round.{Round}

@@ -6,7 +6,7 @@ ghost use Rattle.world_rounds.specs.Guarantees.{HasOneResultEach, HasRightKinds,
 ghost use Rattle.world_rounds.specs.Rounds.{EndsTold, ReplaysAndQueues, new_now};
 ghost use Rattle.world_rounds.specs.Inside.{the_now};
 ghost use Rattle.world_rounds.specs.Outside.{OutsideIn, StoresRuns};
-ghost use Rattle.vm_steps.specs.Record.{Record};
+ghost use Rattle.vm_attempt.specs.Record.{Record};
 ghost use Rattle.world_rounds.specs.Course.{AreRun, BeginsRound, EndsToldBy, FaultsIn, HappensTo};
 
 use crate::desk::Desk;

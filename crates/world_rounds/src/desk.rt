@@ -13,9 +13,8 @@ use journal_entries::JournalFault;
 use journal_protocol::{Decoder, Error, NamedFault, Version};
 use journal_store::WholeJournal;
 use std::alloc::{AllocError, Global};
-use vm_attempt::Attempt;
+use vm_attempt::{Attempt, Progress};
 use vm_retries::RetryPolicy;
-use vm_steps::Progress;
 use vm_types::{Handler, RunExitResult, VMResult};
 
 /// A round on its way, but for its attempt.

@@ -1,7 +1,7 @@
 //! Whether a handler replays a world's journal to its end: the check before a new version of it takes over.
 ghost use Rattle.std.specs.Prelude.{◌≡◌, true, IfOk, IfErr};
 ghost use Rattle.vm_model.specs.Calls.{Meaning};
-ghost use Rattle.vm_steps.specs.Record.{heard};
+ghost use Rattle.vm_attempt.specs.Record.{heard};
 ghost use Rattle.vm_attempt.specs.Attempts.{IsWellFedInReplay, ProvesItsJournal};
 ghost use Rattle.vm_attempt.specs.Fixed.{fixed_of};
 ghost use Rattle.journal_entries.specs.declared.fault.JournalFault.TheVariants as journal_fault;

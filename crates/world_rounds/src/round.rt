@@ -3,7 +3,7 @@ ghost use Rattle.std.specs.Prelude.{◌≡◌, ◌⊎◌, ◌≤◌, ◌∷◌, 
 ghost use Rattle.std.specs.List.{concat};
 ghost use Rattle.journal_protocol.specs.Frames.{encoding, IsWhole};
 ghost use Rattle.invocation_vm.specs.Making.{IsSupported, made, supported};
-ghost use Rattle.vm_steps.specs.Stepping.{fresh_record};
+ghost use Rattle.vm_attempt.specs.Stepping.{fresh_record};
 ghost use Rattle.journal_entries.specs.Arrivals.{most_entries};
 ghost use Rattle.world_rounds.specs.Inside.{the_now, report_view};
 ghost use Rattle.vm_attempt.specs.Fixed.{fixed_of};

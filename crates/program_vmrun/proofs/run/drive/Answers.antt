@@ -1,5 +1,5 @@
 use Rattle.std.proofs.Common.{sym, ◌∙◌, subst, arith}
-use Rattle.vm_steps.specs.Stepping.{StepDoes}
+use Rattle.vm_attempt.specs.Stepping.{StepDoes}
 use Rattle.program_vmrun.proofs.Driving.{stepped_more, drives_to, drives_out}
 use Rattle.program_vmrun.proofs.run.drive.Goals as goal
 

@@ -1,6 +1,6 @@
 use Rattle.std.proofs.Common.{ap, ◌∙◌, subst}
 use Rattle.std.specs.Prelude.{Ok}
-use Rattle.vm_steps.specs.Stepping.{StepDoes}
+use Rattle.vm_attempt.specs.Stepping.{StepDoes}
 use Rattle.world_laws.proofs.Checking.{one_stepped}
 use Rattle.world_laws.proofs.steps.replay_steps.Goals as goal
 

@@ -4,7 +4,7 @@ use Rattle.journal_protocol.specs.Notification.{Notification}
 use Rattle.vm_model.specs.Fixed.{Fixed}
 use Rattle.vm_model.specs.Histories.{IsPrefix, Told}
 use Rattle.vm_model.specs.Moves.{Point}
-use Rattle.vm_steps.specs.Heard.{Heard}
+use Rattle.vm_attempt.specs.Heard.{Heard}
 use Rattle.vm_attempt.specs.Journals.{setup_for}
 use Rattle.vm_attempt.specs.Told.{Journal, IsToldPoint, arrivals}
 use Rattle.world_laws.proofs.Resting.{answers_wait, rests_past, run_passes, run_waits}

@@ -1,5 +1,5 @@
 use Rattle.std.proofs.Common.{◌≡◌}
-use Rattle.vm_steps.specs.Record.{heard}
+use Rattle.vm_attempt.specs.Record.{heard}
 use Rattle.world_rounds.proofs.replay.uses_all.Given as goal
 
 abbrev pub invariant-loop-left : goal.invariant-loop-left

@@ -1,4 +1,4 @@
-use Rattle.vm_steps.specs.Inside.{the_record}
+use Rattle.vm_attempt.specs.Inside.{the_record}
 use Rattle.vm_attempt.proofs.Advanced.{kept_told}
 use Rattle.vm_attempt.proofs.Freshly.{come_fresh}
 use Rattle.vm_attempt.proofs.InReplay.{told_in_replay}

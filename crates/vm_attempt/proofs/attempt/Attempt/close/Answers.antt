@@ -1,4 +1,4 @@
-use Rattle.vm_steps.specs.Inside.{the_fields, the_record}
+use Rattle.vm_attempt.specs.Inside.{the_fields, the_record}
 use Rattle.vm_attempt.proofs.Blamed.{close_blames}
 use Rattle.vm_attempt.proofs.Coming.{close_comes}
 use Rattle.vm_attempt.proofs.InReplay.{close_in_replay}

@@ -1,6 +1,6 @@
 use Rattle.std.proofs.Common.{◌≡◌, None, Some, inl, refl, subst, sym}
 use Rattle.invocation_vm.specs.Seen.{seen}
-use Rattle.vm_steps.specs.Inside.{the_fields}
+use Rattle.vm_attempt.specs.Inside.{the_fields}
 use Rattle.vm_attempt.specs.Invariant.{AlwaysHolds}
 use Rattle.vm_attempt.proofs.Advanced.{new_is_new, new_whole}
 use Rattle.vm_attempt.proofs.Blamed.{new_blamed}

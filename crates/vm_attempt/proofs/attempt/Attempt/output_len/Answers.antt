@@ -1,4 +1,4 @@
-use Rattle.vm_steps.specs.Inside.{the_record}
+use Rattle.vm_attempt.specs.Inside.{the_record}
 use Rattle.vm_attempt.proofs.Written.{writes_whole}
 use Rattle.vm_attempt.proofs.attempt.Attempt.output_len.Goals as goal
 use Rattle.vm_model.specs.Fixed.{fixed_by}

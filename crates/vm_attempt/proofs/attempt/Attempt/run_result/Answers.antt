@@ -1,5 +1,5 @@
-use Rattle.vm_steps.specs.Inside.{the_fields, the_record}
-use Rattle.vm_steps.specs.Record.{all_heard, all_said}
+use Rattle.vm_attempt.specs.Inside.{the_fields, the_record}
+use Rattle.vm_attempt.specs.Record.{all_heard, all_said}
 use Rattle.vm_attempt.proofs.Finishing.{finish_blame, finish_blames, finish_comes, finish_honest, finish_in_replay, finish_late, finish_sleeps, finish_told, finish_under}
 use Rattle.vm_attempt.proofs.attempt.Attempt.run_result.Goals as goal
 use Rattle.vm_model.specs.Fixed.{fixed_by}

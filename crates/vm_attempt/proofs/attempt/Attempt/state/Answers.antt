@@ -1,5 +1,5 @@
 use Rattle.std.proofs.Common.{sym, ◌∙◌}
-use Rattle.vm_steps.specs.Inside.{the_record}
+use Rattle.vm_attempt.specs.Inside.{the_record}
 use Rattle.vm_model.specs.Fixed.{fixed_by}
 use Rattle.vm_attempt.proofs.InReplay.{proves_in_replay}
 use Rattle.vm_attempt.proofs.Proving.{shows_processing}

@@ -1,5 +1,5 @@
-use Rattle.vm_steps.specs.Inside.{the_fields, the_record}
-use Rattle.vm_steps.specs.Record.{all_heard, all_said}
+use Rattle.vm_attempt.specs.Inside.{the_fields, the_record}
+use Rattle.vm_attempt.specs.Record.{all_heard, all_said}
 use Rattle.vm_attempt.proofs.Coming.{step_comes}
 use Rattle.vm_attempt.proofs.Erring.{step_blames}
 use Rattle.vm_attempt.proofs.Freshly.{come_fresh}

@@ -1,4 +1,4 @@
-use Rattle.vm_steps.specs.Inside.{the_fields, the_record}
+use Rattle.vm_attempt.specs.Inside.{the_fields, the_record}
 use Rattle.vm_attempt.proofs.Blamed.{take_blames}
 use Rattle.vm_attempt.proofs.Coming.{take_comes}
 use Rattle.vm_attempt.proofs.InReplay.{take_in_replay}

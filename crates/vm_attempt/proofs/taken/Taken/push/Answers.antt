@@ -1,5 +1,5 @@
-use Rattle.vm_steps.proofs.Lengths.{piece_counted}
-use Rattle.vm_steps.proofs.taken.Taken.push.Goals as goal
+use Rattle.vm_attempt.proofs.Lengths.{piece_counted}
+use Rattle.vm_attempt.proofs.taken.Taken.push.Goals as goal
 
 pub invariant_of-self-2 : goal.invariant_of-self-2
 invariant_of-self-2 c =

@@ -5,12 +5,12 @@ use Rattle.vm_types.specs.declared.steps.Answer.{Answer}
 use Rattle.vm_types.specs.declared.steps.Step.{Step}
 use Rattle.await_trees.specs.declared.tree.UnresolvedFuture.{UnresolvedFuture}
 use Rattle.invocation_vm.specs.Views.{View}
-use Rattle.vm_steps.specs.declared.progress.Progress.{Progress}
-use Rattle.vm_steps.specs.declared.progress.Reply.{Reply}
-use Rattle.vm_steps.specs.declared.progress.Reply.TheVariants as reply
-use Rattle.vm_steps.specs.Record.{Record}
-use Rattle.vm_steps.specs.Steps.{StepMade}
-use Rattle.vm_steps.specs.Stepping.{StepFunction, step_asked, asked_from, future_in, replied, progress_of, Advances}
+use Rattle.vm_attempt.specs.declared.progress.Progress.{Progress}
+use Rattle.vm_attempt.specs.declared.progress.Reply.{Reply}
+use Rattle.vm_attempt.specs.declared.progress.Reply.TheVariants as reply
+use Rattle.vm_attempt.specs.Record.{Record}
+use Rattle.vm_attempt.specs.Steps.{StepMade}
+use Rattle.vm_attempt.specs.Stepping.{StepFunction, step_asked, asked_from, future_in, replied, progress_of, Advances}
 
 -- the VM's view before doesn't matter to the record after
 settled_vm : (r : Record) (answers : List Answer) (mid : View) (future : Option UnresolvedFuture) (given : Result Reply Error) (w : View)

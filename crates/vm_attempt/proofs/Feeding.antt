@@ -5,8 +5,8 @@ use Rattle.std.specs.declared.alloc.AllocError.{AllocError}
 use Rattle.await_trees.specs.declared.handle.NotificationHandle.{NotificationHandle}
 use Rattle.journal_protocol.specs.Error.{Error}
 use Rattle.invocation_vm.specs.Views.{View, Leaves, after_input, messages_in_bytes}
-use Rattle.vm_steps.specs.Record.{Record}
-use Rattle.vm_steps.specs.Stepping.{with_piece_kept, failed_run_noted, noted_at, with_vm, FeedsPiece}
+use Rattle.vm_attempt.specs.Record.{Record}
+use Rattle.vm_attempt.specs.Stepping.{with_piece_kept, failed_run_noted, noted_at, with_vm, FeedsPiece}
 
 -- a piece
 pub feeds_kept : (piece : List ℕ) (old r : Record) (before w : View) (result : Result Unit AllocError) → r ≡ with_piece_kept piece old → before ≡ old.vm

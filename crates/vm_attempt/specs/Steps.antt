@@ -26,8 +26,8 @@ use Rattle.vm_machine.specs.Reads.{ReadCanBeRead, read_step}
 use Rattle.vm_machine.specs.Signals.{signal_step}
 use Rattle.invocation_vm.specs.Calls.{new_awakeable_step}
 use Rattle.invocation_vm.specs.Views.{View}
-use Rattle.vm_steps.specs.declared.progress.Reply.{Reply}
-use Rattle.vm_steps.specs.declared.progress.Reply.TheVariants as reply
+use Rattle.vm_attempt.specs.declared.progress.Reply.{Reply}
+use Rattle.vm_attempt.specs.declared.progress.Reply.TheVariants as reply
 
 -- an outcome with another answer
 abbrev pub mapped : {A B : Type 0} → (A → B) → Outcome A → Outcome B

@@ -2,10 +2,10 @@ use Rattle.std.proofs.Common.{ap, ◌∙◌, sym, length}
 use Rattle.std.proofs.lemmas.Bool.{false≢true}
 use Rattle.std.specs.Prelude.{◌==◌}
 use Rattle.invocation_vm.specs.Seen.{seen}
-use Rattle.vm_steps.specs.Inside.{the_fields}
-use Rattle.vm_steps.specs.Stepping.{asked_from}
-use Rattle.vm_steps.proofs.Asking.{asks_made}
-use Rattle.vm_steps.proofs.inner.Inner.advance.Goals as goal
+use Rattle.vm_attempt.specs.Inside.{the_fields}
+use Rattle.vm_attempt.specs.Stepping.{asked_from}
+use Rattle.vm_attempt.proofs.Asking.{asks_made}
+use Rattle.vm_attempt.proofs.inner.Inner.advance.Goals as goal
 
 pub returns-clause-does : goal.returns-clause-does
 returns-clause-does g c =

@@ -1,9 +1,9 @@
 use Rattle.std.proofs.Common.{sym, subst}
 use Rattle.invocation_vm.specs.Seen.{seen}
-use Rattle.vm_steps.specs.Inside.{the_fields}
-use Rattle.vm_steps.specs.Stepping.{FeedDoes, with_vm}
-use Rattle.vm_steps.proofs.Feeding.{feeds_kept}
-use Rattle.vm_steps.proofs.inner.Inner.feed.Goals as goal
+use Rattle.vm_attempt.specs.Inside.{the_fields}
+use Rattle.vm_attempt.specs.Stepping.{FeedDoes, with_vm}
+use Rattle.vm_attempt.proofs.Feeding.{feeds_kept}
+use Rattle.vm_attempt.proofs.inner.Inner.feed.Goals as goal
 
 pub returns-clause-does : goal.returns-clause-does
 returns-clause-does g c =

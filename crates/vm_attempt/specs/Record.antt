@@ -8,9 +8,9 @@ use Rattle.await_trees.specs.declared.handle.NotificationHandle.{NotificationHan
 use Rattle.await_trees.specs.declared.tree.UnresolvedFuture.{UnresolvedFuture}
 use Rattle.journal_protocol.specs.ProposeRunCompletion.{ProposeRunCompletion}
 use Rattle.invocation_vm.specs.Views.{View}
-use Rattle.vm_steps.specs.Heard.{Heard, acknowledged_from}
-use Rattle.vm_steps.specs.declared.progress.Fed.{Fed}
-use Rattle.vm_steps.specs.declared.progress.Progress.{Progress}
+use Rattle.vm_attempt.specs.Heard.{Heard, acknowledged_from}
+use Rattle.vm_attempt.specs.declared.progress.Fed.{Fed}
+use Rattle.vm_attempt.specs.declared.progress.Progress.{Progress}
 
 -- what an attempt keeps of itself
 pub record Record : Type 0 where

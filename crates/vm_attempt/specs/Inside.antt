@@ -3,9 +3,9 @@ use Rattle.std.specs.Prelude.{List, [], ◌++◌}
 use Rattle.std.specs.List.{concat}
 use Rattle.journal_protocol.specs.ProposeRunCompletion.{ProposeRunCompletion}
 use Rattle.invocation_vm.specs.Seen.{seen}
-use Rattle.vm_steps.specs.declared.inner.Inner.{Inner}
-use Rattle.vm_steps.specs.Heard.{proposals_in}
-use Rattle.vm_steps.specs.Record.{Record}
+use Rattle.vm_attempt.specs.declared.inner.Inner.{Inner}
+use Rattle.vm_attempt.specs.Heard.{proposals_in}
+use Rattle.vm_attempt.specs.Record.{Record}
 
 -- the fields as a record, with these proposals
 abbrev pub record_with : {H : Type 0} → List ProposeRunCompletion → Inner H → Record

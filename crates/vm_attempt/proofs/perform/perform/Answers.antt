@@ -1,6 +1,6 @@
 use Rattle.invocation_vm.specs.Seen.{seen}
-use Rattle.vm_steps.proofs.Replies.{made_answer, made_await}
-use Rattle.vm_steps.proofs.perform.perform.Goals as goal
+use Rattle.vm_attempt.proofs.Replies.{made_answer, made_await}
+use Rattle.vm_attempt.proofs.perform.perform.Goals as goal
 
 pub returns-in-Ok-Answer : goal.returns-in-Ok-Answer
 returns-in-Ok-Answer c = made_answer c.args.step c.in-Ok-Answer.answer (seen c.args.vm.now) (seen c.step.new.self) (rw c.in-Ok-Answer.field-0-is at c.in-Ok-Answer.ensures)

@@ -1,9 +1,9 @@
 use Rattle.std.proofs.Common.{◌∙◌, Some, ap, subst, sym}
 use Rattle.invocation_vm.specs.Seen.{seen}
-use Rattle.vm_steps.specs.Inside.{the_fields}
-use Rattle.vm_steps.specs.Stepping.{TellsUnless, with_vm}
-use Rattle.vm_steps.proofs.Feeding.{failed_noted, none_noted}
-use Rattle.vm_steps.proofs.inner.Inner.run_result.Goals as goal
+use Rattle.vm_attempt.specs.Inside.{the_fields}
+use Rattle.vm_attempt.specs.Stepping.{TellsUnless, with_vm}
+use Rattle.vm_attempt.proofs.Feeding.{failed_noted, none_noted}
+use Rattle.vm_attempt.proofs.inner.Inner.run_result.Goals as goal
 
 pub returns-then-not-had_failed-clause-does : goal.returns-then-not-had_failed-clause-does
 returns-then-not-had_failed-clause-does g c =

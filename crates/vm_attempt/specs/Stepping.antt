@@ -17,23 +17,23 @@ use Rattle.vm_types.specs.declared.runs.RunExitResult.{RunExitResult}
 use Rattle.journal_protocol.specs.ProposeRunCompletion.{ProposeRunCompletion}
 use Rattle.vm_machine.specs.declared.machine.Machine.{Machine}
 use Rattle.invocation_vm.specs.Calls.{CallsProposal}
-use Rattle.vm_steps.specs.Heard.{proposals_in}
+use Rattle.vm_attempt.specs.Heard.{proposals_in}
 use Rattle.vm_types.specs.declared.values.Input.{Input}
 use Rattle.vm_parts.specs.Outboxes.{WholeFrames}
 use Rattle.vm_machine.specs.declared.phase.Phase.{Phase}
 use Rattle.vm_machine.specs.declared.phase.Phase.TheVariants.{WaitingStart, WaitingReplayEntries, Replaying, Processing, Closed}
 use Rattle.vm_machine.specs.Inputs.{input_step}
 use Rattle.invocation_vm.specs.Views.{StarvesAmong, messages_in_bytes, View, Calls, after_input, after_closing}
-use Rattle.vm_steps.specs.declared.progress.Fed.{Fed}
-use Rattle.vm_steps.specs.declared.progress.Progress.{Progress}
-use Rattle.vm_steps.specs.declared.progress.Progress.TheVariants as progress
-use Rattle.vm_steps.specs.declared.progress.Reply.{Reply}
-use Rattle.vm_steps.specs.declared.progress.Reply.TheVariants as reply
+use Rattle.vm_attempt.specs.declared.progress.Fed.{Fed}
+use Rattle.vm_attempt.specs.declared.progress.Progress.{Progress}
+use Rattle.vm_attempt.specs.declared.progress.Progress.TheVariants as progress
+use Rattle.vm_attempt.specs.declared.progress.Reply.{Reply}
+use Rattle.vm_attempt.specs.declared.progress.Reply.TheVariants as reply
 use Rattle.journal_protocol.specs.Version.{Version}
 use Rattle.vm_types.specs.declared.options.VMOptions.{VMOptions}
 use Rattle.invocation_vm.specs.Making.{made}
-use Rattle.vm_steps.specs.Record.{AttemptView, Record, bytes_written}
-use Rattle.vm_steps.specs.Steps.{StepMade}
+use Rattle.vm_attempt.specs.Record.{AttemptView, Record, bytes_written}
+use Rattle.vm_attempt.specs.Steps.{StepMade}
 
 -- a handler's step after these answers
 abbrev pub StepFunction : Type 0

@@ -3,7 +3,7 @@ ghost use Rattle.std.specs.Prelude.{◌≡◌, ◌≤◌, ◌+◌, IfOk, OnOk, O
 ghost use Rattle.journal_protocol.specs.Errors.{no_memory};
 ghost use Rattle.vm_parts.specs.Outboxes.{WholeFrames};
 ghost use Rattle.invocation_vm.specs.Seen.{seen};
-ghost use Rattle.vm_steps.specs.Stepping.{fresh_record, replied, future_in, progress_of, asked_from, Advances, StepDoes, FeedDoes, CloseDoes, TellsUnless, Takes, output_len, with_piece_kept};
+ghost use Rattle.vm_attempt.specs.Stepping.{fresh_record, replied, future_in, progress_of, asked_from, Advances, StepDoes, FeedDoes, CloseDoes, TellsUnless, Takes, output_len, with_piece_kept};
 
 use crate::perform::perform;
 use crate::progress::{Fed, Progress, Reply};
@@ -65,7 +65,7 @@ fn next_step<H: Handler>(
 }
 
 impl<H: Handler> Inner<H> {
-    ghost use Rattle.vm_steps.specs.Inside.{the_fields};
+    ghost use Rattle.vm_attempt.specs.Inside.{the_fields};
 
     pub fn new(alloc: Global, vm: CoreVM, handler: H) -> Inner<H>
         ensures record { the_fields result ≡ fresh_record (seen vm) }

@@ -29,9 +29,9 @@ use Rattle.invocation_vm.specs.Views.{Calls, View}
 use Rattle.invocation_vm.specs.declared.step.Stepped.{Stepped}
 use Rattle.invocation_vm.specs.declared.step.Stepped.TheVariants as stepped
 use Rattle.invocation_vm.proofs.Stepping.{IsMade, await_left}
-use Rattle.vm_steps.specs.declared.progress.Reply.{Reply}
-use Rattle.vm_steps.specs.declared.progress.Reply.TheVariants as reply
-use Rattle.vm_steps.specs.Steps.{AllCarried, Asked, Awaited, ComesTo, IsReadable, PerformsBy, StepMade, await_reply, mapped}
+use Rattle.vm_attempt.specs.declared.progress.Reply.{Reply}
+use Rattle.vm_attempt.specs.declared.progress.Reply.TheVariants as reply
+use Rattle.vm_attempt.specs.Steps.{AllCarried, Asked, Awaited, ComesTo, IsReadable, PerformsBy, StepMade, await_reply, mapped}
 
 replies : {A : Type 0} (f : A → Reply) (step : Machine → Outcome A) (r : Result A Error) (old new : Machine) → Does (called (step old) old) r old new → DoesBy (ComesTo (λ v. mapped f (called (step v) v)) old) (result_by f r) old new
 replies f step (Ok a) old new h = ap (mapped f) (sym h)

@@ -1,7 +1,7 @@
 //! The call of the VM that a step of a handler is, and what its answer is to the handler.
 ghost use Rattle.std.specs.Prelude.{◌≡◌};
 ghost use Rattle.invocation_vm.specs.Seen.{seen};
-ghost use Rattle.vm_steps.specs.Steps.{Asked, Awaited, StepMade, await_reply};
+ghost use Rattle.vm_attempt.specs.Steps.{Asked, Awaited, StepMade, await_reply};
 
 use crate::progress::Reply;
 use await_trees::UnresolvedFuture;

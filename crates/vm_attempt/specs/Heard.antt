@@ -8,7 +8,7 @@ use Rattle.journal_protocol.specs.Bodies.{proposal_in}
 use Rattle.journal_protocol.specs.Versions.{is_from_v7}
 use Rattle.journal_entries.specs.Frames.{frames_of}
 use Rattle.journal_entries.specs.JournalFrames.{is_proposal}
-use Rattle.vm_steps.specs.declared.progress.Fed.{Fed}
+use Rattle.vm_attempt.specs.declared.progress.Fed.{Fed}
 
 -- ---- proposals
 

@@ -1,4 +1,0 @@
-pub mod Asking
-pub mod Feeding
-pub mod Replies
-pub mod Lengths
