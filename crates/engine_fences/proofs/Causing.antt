@@ -17,7 +17,7 @@ use Rattle.engine_inboxes.specs.Notes.{completion, note_by}
 use Rattle.engine_inboxes.specs.Deliverable.{effect_at, waited_by, waits_for_outcome}
 use Rattle.engines.specs.declared.engine.Engine.{Engine}
 use Rattle.engines.specs.declared.engine.Invocation.{Invocation}
-use Rattle.engines.specs.declared.types.Callee.{Callee}
+use Rattle.engine_inboxes.specs.declared.order.Callee.{Callee}
 use Rattle.engines.specs.Between.{AllKept, IsCalleeOf, IsOneOf, IsRowOf, called_by, called_in, waited_in}
 use Rattle.engines.specs.Lookups.{callee_id, callee_in, callee_of, callee_result}
 use Rattle.engines.specs.Members.{MemberView}

@@ -14,7 +14,7 @@ use Rattle.engine_inboxes.specs.declared.types.Waiting.TheVariants as waiting
 use Rattle.engine_inboxes.specs.Deliverable.{effect_at}
 use Rattle.engine_inboxes.specs.Notes.{signal_note}
 use Rattle.engines.specs.declared.engine.Invocation.{Invocation}
-use Rattle.engines.specs.Lookups.{is_text}
+use Rattle.engine_inboxes.specs.Targets.{is_text}
 use Rattle.engines.specs.Members.{MemberView}
 use Rattle.engine_fences.specs.Signals.{SignalTest, passing, signal_by, signal_read, signal_sent, signal_waiting, signals_came, signals_from, signals_of, signals_to, signals_waiting}
 

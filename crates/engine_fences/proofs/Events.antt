@@ -17,13 +17,14 @@ use Rattle.world_rounds.specs.declared.types.Event.TheVariants as event
 use Rattle.world_rounds.specs.Course.{BeginsRound, CourseView}
 use Rattle.engines.specs.declared.engine.Engine.{Engine}
 use Rattle.engines.specs.declared.engine.Invocation.{Invocation}
-use Rattle.engines.specs.declared.types.Begun.{Begun}
+use Rattle.engine_inboxes.specs.declared.order.Begun.{Begun}
 use Rattle.engines.specs.declared.types.Happening.{Happening}
 use Rattle.engines.specs.declared.types.Happening.TheVariants as happening
-use Rattle.engines.specs.declared.types.Order.{Order}
+use Rattle.engine_inboxes.specs.declared.order.Order.{Order}
 use Rattle.engines.specs.Beginnings.{IsWholeInput, entry_of_input}
 use Rattle.engines.specs.Engines.{AddsCallee, BeginsIf, ChangesAt, ChangesOne, DeliversIf, DeliversTo, DeliversUnless, DoesEffect, EndsWith, FindsOrMakes, GoesIn, HappeningDoes, MemberGoes, NoneAt, OrdersOf, PerformsIf, SendsToPlace, StoresIn, StoresInMember, StoresUnless, brought_at, brought_in, brought_of, new_member, order_of, stopped_in, whole_round}
-use Rattle.engines.specs.Lookups.{brought_for, handler_named, id_of_place, may_begin, place_of, same_as}
+use Rattle.engine_inboxes.specs.Targets.{handler_named}
+use Rattle.engines.specs.Lookups.{brought_for, id_of_place, may_begin, place_of, same_as}
 use Rattle.engines.specs.Members.{Acts, Delivers, GoesBy, MemberView, StoresNextEntry, stopped, with_signal}
 use Rattle.engines.proofs.Among.{get_left, get_pushed}
 use Rattle.engines.proofs.Growing.{Seen, seen_one, some_in}

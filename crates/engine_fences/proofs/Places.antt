@@ -12,7 +12,8 @@ use Rattle.std.proofs.lemmas.List.Sums.{position_or_len_is}
 use Rattle.std.proofs.lemmas.Option.{get_or_from_slice_get, slice_get-get_or, slice_get_within}
 use Rattle.engines.specs.declared.engine.Invocation.{Invocation}
 use Rattle.engines.specs.Engines.{ChangesOne}
-use Rattle.engines.specs.Lookups.{id_of_place, is_text, place_of}
+use Rattle.engine_inboxes.specs.Targets.{is_text}
+use Rattle.engines.specs.Lookups.{id_of_place, place_of}
 use Rattle.engines.proofs.Among.{get_other, get_read, get_set}
 
 -- ---- one that changes

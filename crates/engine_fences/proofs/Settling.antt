@@ -10,10 +10,11 @@ use Rattle.engine_inboxes.proofs.Coming.{none_some, some_same}
 use Rattle.engines.specs.declared.engine.Engine.{Engine}
 use Rattle.engines.specs.declared.engine.Invocation.{Invocation}
 use Rattle.engines.specs.declared.types.Happening.{Happening}
-use Rattle.engines.specs.declared.types.Target.{Target}
+use Rattle.engine_inboxes.specs.declared.target.Target.{Target}
 use Rattle.engines.specs.Between.{AllKept, HasBegun, HasTurn}
 use Rattle.engines.specs.Engines.{AllHappen}
-use Rattle.engines.specs.Lookups.{is_before, is_text, share}
+use Rattle.engine_inboxes.specs.Targets.{is_text, share}
+use Rattle.engines.specs.Lookups.{is_before}
 use Rattle.engines.specs.Members.{MemberView}
 use Rattle.engines.proofs.Growing.{some_in}
 use Rattle.engine_fences.specs.KeyStates.{AreSettled, left_along, state_left, no_values, shares_key, stored_of}

@@ -38,13 +38,14 @@ use Rattle.world_rounds.specs.Rounds.{Now}
 use Rattle.world_rounds.proofs.Settled.{IsItem, command_unread, completion_read}
 use Rattle.engines.specs.declared.engine.Engine.{Engine}
 use Rattle.engines.specs.declared.engine.Invocation.{Invocation}
-use Rattle.engines.specs.declared.types.Begun.{Begun}
+use Rattle.engine_inboxes.specs.declared.order.Begun.{Begun}
 use Rattle.engines.specs.declared.types.Happening.{Happening}
 use Rattle.engines.specs.declared.types.Happening.TheVariants as happening
-use Rattle.engines.specs.declared.types.Order.{Order}
+use Rattle.engine_inboxes.specs.declared.order.Order.{Order}
 use Rattle.engines.specs.Beginnings.{entry_of_input}
 use Rattle.engines.specs.Engines.{AddsCallee, AllHappen, BeginsIf, ChangesAt, ChangesOne, DeliversIf, DeliversTo, DeliversUnless, DoesEffect, EndsWith, FindsOrMakes, GoesIn, HappeningDoes, MakesInvocation, MemberGoes, NoneAt, OrdersOf, PerformsIf, SendsToPlace, StoresIn, StoresInMember, StoresUnless, brought_at, new_member, order_of, stopped_in, whole_round}
-use Rattle.engines.specs.Lookups.{handler_named, id_of_place, is_text, may_begin, place_of, same_as}
+use Rattle.engine_inboxes.specs.Targets.{handler_named, is_text}
+use Rattle.engines.specs.Lookups.{id_of_place, may_begin, place_of, same_as}
 use Rattle.engines.specs.Members.{Acts, ArrivesFromInbox, Delivers, GoesBy, MemberView, NoEntry, StoresEntry, StoresNextEntry, stopped, with_signal}
 use Rattle.engine_fences.specs.Signals.{NoneFromNowhere, SignalTest, SignalsComeOnce, passing, signals_of, signals_to}
 use Rattle.engines.proofs.Among.{get_left, get_pushed}

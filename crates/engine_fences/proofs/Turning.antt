@@ -6,8 +6,9 @@ use Rattle.std.specs.Cmp.Lexicographic.{same_text}
 use Rattle.journal_protocol.specs.ValueOrFailure.{ValueOrFailure}
 use Rattle.engines.specs.declared.engine.Engine.{Engine}
 use Rattle.engines.specs.declared.engine.Invocation.{Invocation}
-use Rattle.engines.specs.declared.types.Target.{Target}
-use Rattle.engines.specs.Lookups.{are_exclusive, are_exclusive_of, can_begin, has_turn, is_before, is_text, share}
+use Rattle.engine_inboxes.specs.declared.target.Target.{Target}
+use Rattle.engine_inboxes.specs.Targets.{are_exclusive, are_exclusive_of, is_text, share}
+use Rattle.engines.specs.Lookups.{can_begin, has_turn, is_before}
 use Rattle.engines.proofs.Growing.{some_in}
 use Rattle.engine_fences.specs.KeyStates.{shares_key}
 use Rattle.engine_fences.specs.KeyTurns.{HasNext, TurnsGoOn}

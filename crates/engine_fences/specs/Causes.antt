@@ -8,7 +8,7 @@ use Rattle.engine_inboxes.specs.Deliverable.{waits_for_id}
 use Rattle.engine_inboxes.specs.Notes.{note_by}
 use Rattle.engines.specs.declared.engine.Engine.{Engine}
 use Rattle.engines.specs.declared.engine.Invocation.{Invocation}
-use Rattle.engines.specs.declared.types.Callee.{Callee}
+use Rattle.engine_inboxes.specs.declared.order.Callee.{Callee}
 use Rattle.engines.specs.Between.{IsOneOf, waited_in}
 use Rattle.engines.specs.Lookups.{brought_for, callee_of}
 use Rattle.engines.specs.Members.{MemberView}

@@ -6,9 +6,9 @@ use Rattle.vm_model.specs.Moves.{changed_by}
 use Rattle.journal_entries.specs.Entries.{said_in}
 use Rattle.engines.specs.declared.engine.Engine.{Engine}
 use Rattle.engines.specs.declared.engine.Invocation.{Invocation}
-use Rattle.engines.specs.declared.types.Target.{Target}
+use Rattle.engine_inboxes.specs.declared.target.Target.{Target}
 use Rattle.engines.specs.Between.{HasBegun}
-use Rattle.engines.specs.Lookups.{is_text, share}
+use Rattle.engine_inboxes.specs.Targets.{is_text, share}
 use Rattle.engines.specs.Members.{MemberView}
 
 -- both are of exclusive handlers of one service, and of one key

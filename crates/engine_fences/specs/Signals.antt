@@ -14,7 +14,8 @@ use Rattle.engine_inboxes.specs.Deliverable.{effect_at}
 use Rattle.engine_inboxes.specs.Notes.{signal_note}
 use Rattle.engines.specs.declared.engine.Engine.{Engine}
 use Rattle.engines.specs.declared.engine.Invocation.{Invocation}
-use Rattle.engines.specs.Lookups.{is_text, place_of}
+use Rattle.engine_inboxes.specs.Targets.{is_text}
+use Rattle.engines.specs.Lookups.{place_of}
 use Rattle.engines.specs.Members.{MemberView}
 
 -- ---- those of an invocation

@@ -1,7 +1,7 @@
 //! An engine whose attempts name their epochs.
 ghost use Rattle.std.specs.Prelude.{◌≡◌, IfErr, IfOk, OnOk};
 ghost use Rattle.engines.specs.Between.{AllKept};
-ghost use Rattle.engines.specs.Faults.{IsMemoryOrFull, IsNoArrival};
+ghost use Rattle.engine_inboxes.specs.Faults.{IsMemoryOrFull, IsNoArrival};
 ghost use Rattle.engines.specs.Replaying.{AllReplay};
 ghost use Rattle.world_rounds.specs.Rounds.{ReplaysAndQueues};
 ghost use Rattle.engine_fences.specs.Causes.{InboxesHaveCauses};
@@ -10,7 +10,8 @@ ghost use Rattle.engine_fences.specs.Signals.{NoneFromNowhere};
 ghost use Rattle.engine_fences.specs.Fences.{AllFenced, FencedDoes, NamesEpoch, grants};
 
 use crate::epochs::Epochs;
-use engines::{Engine, EngineFault, Happening, Target};
+use engine_inboxes::{EngineFault, Target};
+use engines::{Engine, Happening};
 use journal_protocol::Version;
 use std::alloc::Global;
 use vm_types::{Handler, VMOptions};

@@ -1,7 +1,6 @@
 -- Events of a script, one after another, and what they leave.
-use Rattle.std.proofs.Common.{◌≡◌, ℕ, List, [], ◌∷◌, ◌++◌, length, append_assoc, refl, sym, subst, arith}
-use Rattle.std.specs.List.{AllByRecursion, AllZip}
-use Rattle.std.proofs.lemmas.List.{append-nil}
+use Rattle.std.proofs.Common.{◌≡◌, ℕ, List, [], ◌∷◌, ◌++◌, length, refl, sym, subst, arith}
+use Rattle.std.specs.List.{AllByRecursion}
 use Rattle.handler_plans.specs.declared.plan.Plan.{Plan}
 use Rattle.engines.proofs.Keeping.{kept_from_nothing}
 use Rattle.engines.specs.Between.{AllKept}
@@ -15,10 +14,8 @@ use Rattle.engine_lines.specs.declared.said.Deed.TheVariants as deed
 use Rattle.engine_lines.specs.declared.said.Event.{Event}
 use Rattle.engine_lines.specs.declared.said.Event.TheVariants as event
 use Rattle.engine_lines.specs.declared.script.Numbered.{Numbered}
-use Rattle.engine_lines.specs.declared.script.Planned.{Planned}
-use Rattle.engines.specs.declared.types.Target.{Target}
 use Rattle.engine_scripts.specs.Events.{DeedDoes, EventDoes, HappenOf, HappensOnce, IsDeliveryTo, IsSettling, plan_meaning}
-use Rattle.engine_scripts.specs.Runs.{AllDo, IsTarget, TellsEvent}
+use Rattle.engine_scripts.specs.Runs.{AllDo, TellsEvent}
 
 -- ---- events of an engine
 
@@ -142,21 +139,3 @@ does_more all left rest n first told now so_far then more on is one last report 
 pub does_all : (all left : List Numbered) (first : Engine Plan) (told : List ℕ) (now : Engine Plan) (so_far : List ℕ) → DoesOn all left first told now so_far → length left ≡ 0 → AllDo all first told now so_far
 does_all all [] first told now so_far on none = on now so_far (refl, refl)
 does_all all (n ∷ left) first told now so_far on none = absurd (omega arith)
-
--- ---- handlers
-
--- What the other handlers are, after those so far, all are.
-abbrev pub TargetsOn : List Planned → List Planned → List (Target Plan) → Type 0
-TargetsOn all rest targets = (more : List (Target Plan)) → AllZip IsTarget rest more → AllZip IsTarget all (targets ++ more)
-
-pub targets_none : (all : List Planned) → TargetsOn all all []
-targets_none all more zips = zips
-
-pub targets_more : (all left rest : List Planned) (p : Planned) (targets after : List (Target Plan)) (target : Target Plan) → TargetsOn all left targets → left ≡ p ∷ rest → IsTarget p target → after ≡ targets ++ target ∷ [] → TargetsOn all rest after
-targets_more all left rest p targets after target on is one pushed more zips =
-    let long = on (target ∷ more) (subst (λ ls. AllZip IsTarget ls (target ∷ more)) (sym is) (one, zips)) in
-    subst (λ ts. AllZip IsTarget all (ts ++ more)) (sym pushed) (subst (λ ts. AllZip IsTarget all ts) (sym (append_assoc targets (target ∷ []) more)) long)
-
-pub targets_all : (all left : List Planned) (targets : List (Target Plan)) → TargetsOn all left targets → length left ≡ 0 → AllZip IsTarget all targets
-targets_all all [] targets on none = subst (λ ts. AllZip IsTarget all ts) (append-nil targets) (on [] tt)
-targets_all all (p ∷ left) targets on none = absurd (omega arith)

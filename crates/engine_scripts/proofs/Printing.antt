@@ -13,16 +13,6 @@ adds_none old = ([], sym (append-nil old))
 pub adds_then : (old now then : List ℕ) → AddsText old now → AddsText now then → AddsText old then
 adds_then old now then first second = (first.0 ++ second.0, second.1 ∙ ap (λ l. l ++ second.0) first.1 ∙ append_assoc old first.0 second.0)
 
--- texts, one after another
-pub two_added : (a b old one two : List ℕ) → one ≡ old ++ a → two ≡ one ++ b → two ≡ old ++ (a ++ b)
-two_added a b old one two ea eb = eb ∙ ap (λ l. l ++ b) ea ∙ append_assoc old a b
-
-pub four_added : (a b c d old one two three four : List ℕ) → one ≡ old ++ a → two ≡ one ++ b → three ≡ two ++ c → four ≡ three ++ d → four ≡ old ++ (((a ++ b) ++ c) ++ d)
-four_added a b c d old one two three four ea eb ec ed =
-    let first : two ≡ old ++ (a ++ b) = two_added a b old one two ea eb in
-    let second : three ≡ old ++ ((a ++ b) ++ c) = two_added (a ++ b) c old two three first ec in
-    two_added ((a ++ b) ++ c) d old three four second ed
-
 -- What is printed of the others after those so far is printed of all.
 abbrev pub PrintsOn : Engine Plan → ℕ → List (Invocation Plan) → List ℕ → List ℕ → Type 0
 PrintsOn e i all old now = (new : List ℕ) → PrintsAll e i (drop i all) now new → PrintsAll e 0 all old new

@@ -1,5 +1,5 @@
 -- What the events of a script do: those of an engine, one after another.
-use Rattle.std.specs.Prelude.{◌≡◌, ℕ, List, [], Option, Some, None}
+use Rattle.std.specs.Prelude.{◌≡◌, ℕ, List}
 use Rattle.std.specs.List.{AllByRecursion}
 use Rattle.vm_model.specs.Calls.{Meaning}
 use Rattle.handler_plans.specs.Plans.{plan_step}
@@ -9,8 +9,7 @@ use Rattle.engines.specs.Engines.{AllHappen, HappeningDoes}
 use Rattle.engines.specs.declared.engine.Engine.{Engine}
 use Rattle.engines.specs.declared.types.Happening.{Happening}
 use Rattle.engines.specs.declared.types.Happening.TheVariants as happening
-use Rattle.engines.specs.declared.types.Order.{Order}
-use Rattle.engine_lines.specs.declared.said.Asked.{Asked}
+use Rattle.engine_lines.specs.Orders.{submitted_order}
 use Rattle.engine_lines.specs.declared.said.Deed.{Deed}
 use Rattle.engine_lines.specs.declared.said.Deed.TheVariants as deed
 use Rattle.engine_lines.specs.declared.said.Event.{Event}
@@ -29,22 +28,6 @@ pub record HappenOf (Such : Happening → Type 0) (old new : Engine Plan) : Type
 -- this one event happens
 pub record HappensOnce (it : Happening) (old new : Engine Plan) : Type 0 where
   pub does : HappeningDoes plan_meaning it old new
-
--- a key that isn't named is empty
-abbrev pub key_of : Option (List ℕ) → List ℕ
-key_of None = []
-key_of (Some key) = key
-
--- what a line `submit` asks for
-abbrev pub submitted_order : Asked → Order
-submitted_order asked = record {
-  service = asked.service;
-  handler = asked.handler;
-  key = key_of asked.key;
-  idempotency_key = asked.idempotency_key;
-  parameter = asked.parameter;
-  begins = asked.begins;
-}
 
 -- something that waits for an invocation is delivered
 abbrev pub IsDeliveryTo : ℕ → Happening → Type 0

@@ -1,4 +1,3 @@
-pub mod Statuses
 pub mod Events
 pub mod Printed
 pub mod Runs

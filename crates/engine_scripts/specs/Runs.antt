@@ -15,27 +15,21 @@ use Rattle.program_runs.specs.declared.run_end.RunEnd.{RunEnd}
 use Rattle.program_runs.specs.declared.run_end.RunEnd.TheVariants.{Refused, ReadFailed, NoMemory, WriteFailed, Written}
 use Rattle.handler_plans.specs.declared.plan.Plan.{Plan}
 use Rattle.engines.specs.Between.{AllKept}
-use Rattle.engines.specs.Faults.{IsNoArrival}
+use Rattle.engine_inboxes.specs.Faults.{IsNoArrival}
 use Rattle.engines.specs.declared.engine.Engine.{Engine}
-use Rattle.engines.specs.declared.types.EngineFault.{EngineFault}
-use Rattle.engines.specs.declared.types.Target.{Target}
+use Rattle.engine_inboxes.specs.declared.fault.EngineFault.{EngineFault}
+use Rattle.engine_inboxes.specs.declared.target.Target.{Target}
 use Rattle.engine_lines.specs.Scripts.{IsEngineScript}
 use Rattle.engine_lines.specs.declared.script.Numbered.{Numbered}
-use Rattle.engine_lines.specs.declared.script.Planned.{Planned}
 use Rattle.engine_lines.specs.declared.script.Script.{Script}
 use Rattle.engine_scripts.specs.Events.{EventDoes}
-use Rattle.engine_scripts.specs.Printed.{PrintsEngine, did_text}
-use Rattle.engine_scripts.specs.declared.happen.Did.{Did}
-use Rattle.engine_scripts.specs.declared.run_end.Ending.{Ending}
-use Rattle.engine_scripts.specs.declared.run_end.Refusal.{Refusal}
-use Rattle.engine_scripts.specs.declared.run_end.Refusal.TheVariants.{OtherArguments, UnknownContentType, NoMeaning}
-
--- a handler of the script is called by its names, and its code is the plan of its steps
-pub record IsTarget (planned : Planned) (target : Target Plan) : Type 0 where
-  pub service : target.service ≡ planned.named.service
-  pub handler : target.handler ≡ planned.named.handler
-  pub exclusive : target.exclusive ≡ planned.named.exclusive
-  pub steps : target.code.steps.items ≡ planned.steps
+use Rattle.engine_lines.specs.Parts.{did_text}
+use Rattle.engine_lines.specs.Targets.{IsTarget}
+use Rattle.engine_scripts.specs.Printed.{PrintsEngine}
+use Rattle.engine_lines.specs.declared.did.Did.{Did}
+use Rattle.engine_lines.specs.declared.run_end.Ending.{Ending}
+use Rattle.engine_lines.specs.declared.run_end.Refusal.{Refusal}
+use Rattle.engine_lines.specs.declared.run_end.Refusal.TheVariants.{OtherArguments, UnknownContentType, NoMeaning}
 
 -- an engine of these handlers, at the epoch, without an invocation
 pub record IsNew (version : Version) (targets : List (Target Plan)) (e : Engine Plan) : Type 0 where

@@ -1,27 +1,20 @@
 //! What the events of a script do to an engine: the only module that makes the engine's events.
 ghost use Rattle.std.specs.Prelude.{◌≡◌, None, IfErr, OnOk, Option, ℕ};
-ghost use Rattle.engines.specs.Engines.{Orders};
-ghost use Rattle.engines.specs.Faults.{IsNoArrival};
+ghost use Rattle.engine_inboxes.specs.Faults.{IsNoArrival};
 ghost use Rattle.engines.specs.declared.types.Happening.TheVariants as happening;
 ghost use Rattle.world_rounds.specs.declared.types.Event.TheVariants as attempt;
-ghost use Rattle.engine_scripts.specs.Events.{DeedDoes, EventDoes, HappenOf, HappensOnce, IsDeliveryTo, IsSettling, submitted_order};
+ghost use Rattle.engine_lines.specs.Orders.{submitted_order};
+ghost use Rattle.engine_scripts.specs.Events.{DeedDoes, EventDoes, HappenOf, HappensOnce, IsDeliveryTo, IsSettling};
 
+use engine_inboxes::EngineFault;
+use engine_lines::did::{Did, latest, place_after, something_if};
+use engine_lines::orders::order_of;
 use engine_lines::said::{Asked, Deed, Event};
-use engines::{Engine, EngineFault, Happening, Order, Target};
+use engine_lines::targets::steps_of;
+use engines::{Engine, Happening};
 use handler_plans::plan::Plan;
 use line_parts::results::Proposal;
-use plain::Text;
-use std::alloc::Global;
 use world_rounds::Event as AttemptEvent;
-
-/// What an event of a script has done.
-#[derive(Clone, Copy, PartialEq, Eq)]
-pub enum Did {
-    Nothing,
-    Something,
-    /// The invocation of this number was asked for.
-    Asked(usize),
-}
 
 /// Whether an attempt of an invocation lives.
 fn is_live(engine: &Engine<Plan>, place: usize) -> bool {
@@ -64,37 +57,6 @@ fn any_live(engine: &Engine<Plan>) -> bool {
         }
     }
     false
-}
-
-/// Something, if this is so.
-fn something_if(is_so: bool) -> Did {
-    if is_so { Did::Something } else { Did::Nothing }
-}
-
-/// The order of a line `submit`.
-fn order_of(alloc: Global, asked: Asked) -> Order
-    ensures { result ≡ submitted_order asked }
-{
-    let Asked {
-        service,
-        handler,
-        parameter,
-        key,
-        idempotency_key,
-        begins,
-    } = asked;
-    let key = match key {
-        Some(key) => key,
-        None => Text::empty(alloc),
-    };
-    Order {
-        service,
-        handler,
-        key,
-        idempotency_key,
-        parameter,
-        begins,
-    }
 }
 
 /// An invocation is asked for.
@@ -163,22 +125,6 @@ fn deliver(engine: &mut Engine<Plan>, place: usize, at: usize) -> Result<Did, En
     let before = inbox_len(engine, place);
     engine.happen(&Happening::Deliver(place, at))?;
     Ok(something_if(inbox_len(engine, place) < before))
-}
-
-/// Where to look after this place: what waits there stays, if nothing was delivered.
-fn place_after(at: usize, did: Did) -> usize {
-    match did {
-        Did::Nothing => at.saturating_add(1),
-        _ => at,
-    }
-}
-
-/// What several events have done: what the latest has, or what those before it have, if it did nothing.
-fn latest(before: Did, one: Did) -> Did {
-    match one {
-        Did::Nothing => before,
-        _ => one,
-    }
 }
 
 /// All that waits is delivered, if it can be; what stood first comes first.
@@ -256,16 +202,6 @@ fn clock(engine: &mut Engine<Plan>, time: u64) -> Result<Did, EngineFault>
     let before = engine.clock;
     engine.happen(&Happening::Clock(time))?;
     Ok(something_if(engine.clock > before))
-}
-
-/// How many steps bring a handler as far as it can go: each run takes one more.
-fn steps_of(target: Option<&Target<Plan>>) -> u64 {
-    match target {
-        Some(target) => (target.code.steps.len() as u64)
-            .saturating_mul(2)
-            .saturating_add(2),
-        None => 0,
-    }
 }
 
 /// As many steps for an invocation.

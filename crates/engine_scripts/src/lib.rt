@@ -6,4 +6,3 @@ pub mod happen;
 pub mod play;
 pub mod report;
 pub mod run;
-pub mod run_end;

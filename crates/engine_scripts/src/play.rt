@@ -1,14 +1,15 @@
 //! A script that is played: its events over an engine without invocations, and their report.
-ghost use Rattle.std.specs.Prelude.{◌≡◌, IfErr, IfOk, OnOk};
-ghost use Rattle.std.specs.List.{AllZip};
-ghost use Rattle.engines.specs.Faults.{IsNoArrival};
-ghost use Rattle.engine_scripts.specs.Runs.{AllDo, EventsEnd, IsNew, IsTarget, PlaysEvents, EngineScriptEnds, TellsEvent};
+ghost use Rattle.std.specs.Prelude.{IfErr, IfOk, OnOk};
+ghost use Rattle.engine_inboxes.specs.Faults.{IsNoArrival};
+ghost use Rattle.engine_scripts.specs.Runs.{AllDo, EventsEnd, IsNew, PlaysEvents, EngineScriptEnds, TellsEvent};
 
 use crate::happen::happens;
-use crate::report::{print_did, print_engine};
-use engine_lines::said::Named;
-use engine_lines::script::{Numbered, Planned, Script, Unread, script_of};
-use engines::{Engine, EngineFault, Target};
+use crate::report::print_engine;
+use engine_inboxes::{EngineFault, Target};
+use engine_lines::parts::print_did;
+use engine_lines::script::{Numbered, Script, Unread, script_of};
+use engine_lines::targets::targets_of;
+use engines::Engine;
 use handler_plans::plan::Plan;
 use journal_protocol::Version;
 use lines::line::Line;
@@ -20,39 +21,6 @@ use vm_types::VMOptions;
 pub struct Played {
     pub report: Line,
     pub stop: Option<EngineFault>,
-}
-
-/// A handler of the script, as a target.
-fn target_of(alloc: Global, planned: Planned) -> Target<Plan>
-    ensures { IsTarget planned result }
-{
-    let Planned { named, steps } = planned;
-    let Named {
-        service,
-        handler,
-        exclusive,
-    } = named;
-    Target {
-        service,
-        handler,
-        exclusive,
-        code: Plan {
-            alloc,
-            steps: steps.into_vec(),
-        },
-    }
-}
-
-/// All handlers.
-#[tactic(auto, using(crate::proofs::Playing::targets_none, crate::proofs::Playing::targets_more, crate::proofs::Playing::targets_all))]
-fn targets_of(alloc: Global, handlers: Vec<Planned>) -> Result<Vec<Target<Plan>>, AllocError>
-    ensures { IfOk result (λ targets. AllZip IsTarget handlers.items targets.items) }
-{
-    let mut targets = Vec::new(alloc);
-    for planned in handlers {
-        targets.push(target_of(alloc, planned))?;
-    }
-    Ok(targets)
 }
 
 /// An engine of these handlers, without an invocation.

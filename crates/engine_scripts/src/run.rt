@@ -3,11 +3,11 @@ ghost use Rattle.std.specs.Prelude.{◌≡◌, IfSome, None};
 ghost use Rattle.std.specs.Io.KnownBytes.{IsAtEnd};
 ghost use Rattle.journal_protocol.specs.Versions.{version_of};
 ghost use Rattle.engine_scripts.specs.Runs.{IsLineRefused, PlaysWholeScript, EngineReportEnds, RunSays};
-ghost use Rattle.engine_scripts.specs.declared.run_end.Refusal.TheVariants as refusal;
+ghost use Rattle.engine_lines.specs.declared.run_end.Refusal.TheVariants as refusal;
 ghost use Rattle.program_runs.specs.declared.run_end.RunEnd.TheVariants.{Refused};
 
 use crate::play::{Played, play_text};
-use crate::run_end::{Ending, Refusal, RunEnd};
+use engine_lines::run_end::{Ending, Refusal, RunEnd};
 use engine_lines::script::Unread;
 use hints::place::copy_of_line;
 use journal_protocol::Version;

@@ -41,7 +41,7 @@ use Rattle.engine_inboxes.specs.Ids.{carried_pair, past_new, past_new_along, pas
 use Rattle.engine_inboxes.proofs.Coming.{id_listed, listed, none_some, note_said, said_append}
 use Rattle.engines.specs.Beginnings.{BeganWithInput, IsPastAll, IsWholeInput, MemberLasts, entry_of_input}
 use Rattle.journal_entries.specs.declared.fault.JournalFault.{JournalFault}
-use Rattle.engines.specs.Faults.{IsMemoryOrFull, fault_of_entry, fault_of_store}
+use Rattle.engine_inboxes.specs.Faults.{IsMemoryOrFull, fault_of_entry, fault_of_store}
 use Rattle.engines.specs.Members.{MayStoreOne, case_in}
 use Rattle.engines.proofs.Among.{get_left}
 use Rattle.engines.proofs.Storing.{input_said}

@@ -5,12 +5,13 @@ use Rattle.std.specs.Option.{option_map}
 use Rattle.std.proofs.lemmas.List.{append_assoc, drop_more, get_or_at, length-append, length-drop, length-map, length-take-le, map_more, set_at, take_all}
 use Rattle.world_rounds.specs.Course.{BeginsRound}
 use Rattle.engine_effects.specs.declared.effect.Sent.{Sent}
-use Rattle.engines.specs.declared.types.Begun.{Begun}
-use Rattle.engines.specs.declared.types.Callee.{Callee}
-use Rattle.engines.specs.declared.types.Order.{Order}
-use Rattle.engines.specs.declared.types.Target.{Target}
+use Rattle.engine_inboxes.specs.declared.order.Begun.{Begun}
+use Rattle.engine_inboxes.specs.declared.order.Callee.{Callee}
+use Rattle.engine_inboxes.specs.declared.order.Order.{Order}
+use Rattle.engine_inboxes.specs.declared.target.Target.{Target}
 use Rattle.world_rounds.specs.declared.types.Setting.{Setting}
-use Rattle.engines.specs.Lookups.{id_of_place, may_begin, place_of, same_as, handler_named}
+use Rattle.engine_inboxes.specs.Targets.{handler_named}
+use Rattle.engines.specs.Lookups.{id_of_place, may_begin, place_of, same_as}
 use Rattle.world_rounds.proofs.Lists.{split_at}
 use Rattle.engines.specs.declared.types.Happening.{Happening}
 use Rattle.journal_protocol.specs.ValueOrFailure.{ValueOrFailure}

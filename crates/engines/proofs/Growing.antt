@@ -11,11 +11,12 @@ use Rattle.engine_inboxes.specs.declared.types.Waiting.{Waiting}
 use Rattle.engine_inboxes.specs.declared.types.Waiting.TheVariants as waiting
 use Rattle.engines.specs.declared.engine.Engine.{Engine}
 use Rattle.engines.specs.declared.engine.Invocation.{Invocation}
-use Rattle.engines.specs.declared.types.Begun.{Begun}
-use Rattle.engines.specs.declared.types.Callee.{Callee}
+use Rattle.engine_inboxes.specs.declared.order.Begun.{Begun}
+use Rattle.engine_inboxes.specs.declared.order.Callee.{Callee}
 use Rattle.engines.specs.Between.{HasTurn, IsBegunOnce, IsCalleeOf, IsRight, IsRowOf, WasBegun, WasFound}
 use Rattle.engines.specs.Engines.{ChangesOne, NoneAt}
-use Rattle.engines.specs.Lookups.{callee_in, callee_of, can_begin, has_turn, callee_id, is_before, is_same, is_text, may_begin, callee_result, share, handler_named}
+use Rattle.engine_inboxes.specs.Targets.{is_text, share, handler_named}
+use Rattle.engines.specs.Lookups.{callee_in, callee_of, can_begin, has_turn, callee_id, is_before, is_same, may_begin, callee_result}
 use Rattle.engines.specs.Members.{MemberView}
 use Rattle.engines.proofs.Among.{get_other, get_past, get_read, get_set, get_within}
 

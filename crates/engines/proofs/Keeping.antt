@@ -37,15 +37,16 @@ use Rattle.world_rounds.specs.Course.{BeginsRound, CourseView, HappensTo}
 use Rattle.world_rounds.specs.Rounds.{Now}
 use Rattle.engines.specs.declared.engine.Engine.{Engine}
 use Rattle.engines.specs.declared.engine.Invocation.{Invocation}
-use Rattle.engines.specs.declared.types.Begun.{Begun}
-use Rattle.engines.specs.declared.types.Callee.{Callee}
+use Rattle.engine_inboxes.specs.declared.order.Begun.{Begun}
+use Rattle.engine_inboxes.specs.declared.order.Callee.{Callee}
 use Rattle.engines.specs.declared.types.Happening.{Happening}
 use Rattle.engines.specs.declared.types.Happening.TheVariants as happening
-use Rattle.engines.specs.declared.types.Order.{Order}
+use Rattle.engine_inboxes.specs.declared.order.Order.{Order}
 use Rattle.engines.specs.Between.{AllKept, GetsId, GetsResult, HasBegun, HasTurn, IsOneOf, IsBegunOnce, IsCalleeOf, IsRight, IsRightNote, IsRowOf, KeepsCalls, WasBegun, called_by, called_in, stored_result, results_by, waited_in}
 use Rattle.engines.specs.Beginnings.{entry_of_input}
 use Rattle.engines.specs.Engines.{AddsCallee, AllHappen, BeginsFor, BeginsIf, ChangesAt, DeliversIf, DeliversTo, DeliversUnless, EndsWith, FindsOrMakes, GoesIn, HappeningDoes, MakesInvocation, MemberGoes, Orders, OrdersOf, PerformsIf, SendsToPlace, StoresAndPerforms, StoresIn, StoresInMember, StoresUnless, brought_at, brought_in, brought_of, new_member, order_of, stopped_in, whole_round}
-use Rattle.engines.specs.Lookups.{brought_for, callee_in, callee_of, callee_id, id_of_place, is_same, may_begin, place_of, callee_result, same_as, same_by, handler_named}
+use Rattle.engine_inboxes.specs.Targets.{handler_named}
+use Rattle.engines.specs.Lookups.{brought_for, callee_in, callee_of, callee_id, id_of_place, is_same, may_begin, place_of, callee_result, same_as, same_by}
 use Rattle.engines.specs.Members.{Acts, ArrivesFromInbox, Delivers, GoesBy, MemberView, NoEntry, StoresEntry, StoresNextEntry, with_signal, stopped}
 use Rattle.engines.proofs.Among.{all_among, all_push, all_with, among_at, among_either, get_last, get_left, get_pushed, get_within, first_none, one_each, waited_among, zip_push, zip_with}
 use Rattle.engines.proofs.Books.{Book, book_came, book_command, book_proposal, book_signal, called_more, called_same, done_true, nothing_asked, results_more, waited_more, waited_same}

@@ -16,14 +16,15 @@ use Rattle.engine_effects.specs.declared.effect.Sent.{Sent}
 use Rattle.engine_inboxes.specs.declared.types.Brought.{Brought}
 use Rattle.engines.specs.declared.engine.Engine.{Engine}
 use Rattle.engines.specs.declared.engine.Invocation.{Invocation}
-use Rattle.engines.specs.declared.types.Begun.{Begun}
-use Rattle.engines.specs.declared.types.EngineFault.{EngineFault}
+use Rattle.engine_inboxes.specs.declared.order.Begun.{Begun}
+use Rattle.engine_inboxes.specs.declared.fault.EngineFault.{EngineFault}
 use Rattle.engines.specs.declared.types.Happening.{Happening}
 use Rattle.engines.specs.declared.types.Happening.TheVariants as happening
-use Rattle.engines.specs.declared.types.Order.{Order}
+use Rattle.engine_inboxes.specs.declared.order.Order.{Order}
 use Rattle.engines.specs.Engines.{AddsCallee, AllHappen, BeginsIf, ChangesAt, ChangesOne, DeliversIf, DeliversTo, DeliversUnless, DoesEffect, EndsWith, FindsOrMakes, GoesIn, HappeningDoes, MakesInvocation, MemberGoes, NoneAt, OrdersOf, PerformsIf, SendsToPlace, StoresIn, StoresInMember, StoresUnless, brought_at, order_of, stopped_in, whole_round}
-use Rattle.engines.specs.Faults.{IsMemoryOrFull, IsNoArrival}
-use Rattle.engines.specs.Lookups.{may_begin, place_of, same_as, handler_named}
+use Rattle.engine_inboxes.specs.Faults.{IsMemoryOrFull, IsNoArrival}
+use Rattle.engine_inboxes.specs.Targets.{handler_named}
+use Rattle.engines.specs.Lookups.{may_begin, place_of, same_as}
 use Rattle.engines.specs.Members.{Acts, Delivers, GoesBy, MemberView, with_signal, stopped}
 use Rattle.engines.specs.Replaying.{AllReplay, Replays, ReplaysIn}
 use Rattle.engines.proofs.Among.{all_push}

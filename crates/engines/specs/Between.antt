@@ -17,9 +17,10 @@ use Rattle.engine_inboxes.specs.declared.types.Waiting.TheVariants as waiting
 use Rattle.engine_inboxes.specs.Deliverable.{WaitOnce, effect_at, waited_by, waits_for_id}
 use Rattle.engines.specs.declared.engine.Engine.{Engine}
 use Rattle.engines.specs.declared.engine.Invocation.{Invocation}
-use Rattle.engines.specs.declared.types.Begun.{Begun}
-use Rattle.engines.specs.declared.types.Callee.{Callee}
-use Rattle.engines.specs.Lookups.{callee_of, callee_id, is_before, is_same, callee_result, handler_named}
+use Rattle.engine_inboxes.specs.declared.order.Begun.{Begun}
+use Rattle.engine_inboxes.specs.declared.order.Callee.{Callee}
+use Rattle.engine_inboxes.specs.Targets.{handler_named}
+use Rattle.engines.specs.Lookups.{callee_of, callee_id, is_before, is_same, callee_result}
 use Rattle.engines.specs.Members.{MemberView}
 use Rattle.engines.specs.Beginnings.{entry_of_input}
 

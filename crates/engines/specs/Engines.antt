@@ -3,10 +3,10 @@ use Rattle.std.specs.Prelude.{◌≡◌, ◌⊎◌, ℕ, ◌<◌, ◌≤◌, max
 use Rattle.std.specs.Option.{option_and_then, option_map}
 use Rattle.engines.specs.declared.engine.Engine.{Engine}
 use Rattle.engines.specs.declared.engine.Invocation.{Invocation}
-use Rattle.engines.specs.declared.types.Begun.{Begun}
-use Rattle.engines.specs.declared.types.Callee.{Callee}
-use Rattle.engines.specs.declared.types.Order.{Order}
-use Rattle.engines.specs.declared.types.Target.{Target}
+use Rattle.engine_inboxes.specs.declared.order.Begun.{Begun}
+use Rattle.engine_inboxes.specs.declared.order.Callee.{Callee}
+use Rattle.engine_inboxes.specs.declared.order.Order.{Order}
+use Rattle.engine_inboxes.specs.declared.target.Target.{Target}
 use Rattle.vm_model.specs.Calls.{Meaning}
 use Rattle.world_rounds.specs.declared.types.Identity.{Identity}
 use Rattle.world_rounds.specs.declared.types.Round.{Round}
@@ -21,7 +21,8 @@ use Rattle.engine_inboxes.specs.declared.types.Brought.{Brought}
 use Rattle.engines.specs.declared.types.Happening.{Happening}
 use Rattle.engines.specs.declared.types.Happening.TheVariants as happening
 use Rattle.engines.specs.Beginnings.{IsWholeInput, entry_of_input}
-use Rattle.engines.specs.Lookups.{brought_for, id_of_place, may_begin, place_of, same_as, handler_named}
+use Rattle.engine_inboxes.specs.Targets.{handler_named}
+use Rattle.engines.specs.Lookups.{brought_for, id_of_place, may_begin, place_of, same_as}
 use Rattle.engines.specs.Members.{Acts, Delivers, GoesBy, MemberView, StoresNextEntry, with_signal, stopped}
 
 -- the rounds of an invocation go on so, if they are there, and nothing else of it changes

@@ -3,13 +3,14 @@ ghost use Rattle.std.specs.Prelude.{◌≡◌, ◌<◌, ◌≤◌, ◌∷◌, []
 ghost use Rattle.engines.specs.Beginnings.{BeganWithInput, IsPastAll, IsWholeInput, entry_of_input};
 ghost use Rattle.engines.specs.Engines.{FindsOrMakes, MakesInvocation, Orders, new_identity, whole_round};
 ghost use Rattle.std.specs.List.{list_any};
-ghost use Rattle.engines.specs.Lookups.{has_turn, id_of_place, is_before, is_kept, is_same, is_text, may_begin, place_of, same_as, share, handler_named};
+ghost use Rattle.engine_inboxes.specs.Targets.{is_text, share, handler_named};
+ghost use Rattle.engines.specs.Lookups.{has_turn, id_of_place, is_before, is_kept, is_same, may_begin, place_of, same_as};
 ghost use Rattle.engine_inboxes.specs.Deliverable.{IsUnknownFrom, known_in};
-ghost use Rattle.engines.specs.Faults.{IsMemoryOrFull};
+ghost use Rattle.engine_inboxes.specs.Faults.{IsMemoryOrFull};
 
 use crate::member::Member;
-use crate::types::{Begun, Callee, EngineFault, Order, Target};
 use bytes::Bytes;
+use engine_inboxes::{Begun, Callee, EngineFault, Order, Target};
 use journal_protocol::{ValueOrFailure, Version};
 use plain::{Items, Text};
 use std::alloc::{AllocError, Global};

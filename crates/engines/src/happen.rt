@@ -4,14 +4,14 @@ ghost use Rattle.engines.specs.Between.{AllKept};
 ghost use Rattle.engines.specs.Lookups.{may_begin};
 ghost use Rattle.engines.specs.Members.{Acts, MemberView, stopped};
 ghost use Rattle.engines.specs.Engines.{AllHappen, BeginsIf, ChangesAt, DeliversAt, HappeningDoes, MemberGoes, Orders, StoresAndPerforms, StoresIn, brought_at, stopped_in};
-ghost use Rattle.engines.specs.Faults.{IsMemoryOrFull, IsNoArrival};
+ghost use Rattle.engine_inboxes.specs.Faults.{IsMemoryOrFull, IsNoArrival};
 ghost use Rattle.engines.specs.Replaying.{AllReplay};
 ghost use Rattle.world_rounds.specs.Rounds.{ReplaysAndQueues};
 
 use crate::engine::{Engine, whole_round};
-use crate::types::{EngineFault, Happening, Order, Target};
+use crate::types::Happening;
 use engine_effects::Effect;
-use engine_inboxes::Brought;
+use engine_inboxes::{Brought, EngineFault, Order, Target};
 use journal_protocol::Version;
 use std::alloc::{AllocError, Global};
 use vm_types::{Handler, VMOptions};

@@ -11,4 +11,4 @@ mod types;
 pub use engine::{Engine, Invocation};
 pub use happen::{play_engine, run_engine};
 pub use member::Member;
-pub use types::{Begun, Callee, EngineFault, Happening, Order, Target};
+pub use types::Happening;

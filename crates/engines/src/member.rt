@@ -1,22 +1,22 @@
 //! An invocation by itself: its rounds, and what waits for it. What waits comes without a fault.
 ghost use Rattle.std.specs.Prelude.{◌≡◌, ◌<◌, ◌++◌, ◌∷◌, [], true, false, length, take, is_some, ℕ, List, Some, None, IfOk, IfErr, OnOk};
-ghost use Rattle.engine_inboxes.specs.Deliverable.{Deliverable, IsUnknownFrom, known_in};
+ghost use Rattle.engine_inboxes.specs.Deliverable.{Deliverable, IsUnknownFrom, known_in, Entered, EntryFaults, IsProposedApart, effect_at};
 ghost use Rattle.journal_entries.specs.Arrivals.{arrival_fault, room_fault};
 ghost use Rattle.journal_entries.specs.Entries.{note_in};
 ghost use Rattle.engines.specs.Beginnings.{BeganWithInput, IsPastAll};
-ghost use Rattle.engines.specs.Faults.{IsMemoryOrFull, IsNoArrival, fault_of_entry};
+ghost use Rattle.engine_inboxes.specs.Faults.{IsMemoryOrFull, IsNoArrival, fault_of_entry};
 ghost use Rattle.engines.specs.Members.{Acts, CantCome, Delivers, GoesBy, IsOwn, MayStoreOne, StoresNextEntry, case_in, with_signal, stopped};
-ghost use Rattle.engine_inboxes.specs.Deliverable.{Entered, EntryFaults, IsProposedApart, effect_at};
 ghost use Rattle.world_rounds.specs.Course.{BeginsRound, HappensTo};
 ghost use Rattle.world_rounds.specs.Guarantees.{HasOneResultEach, HasRightKinds, IsExactlyOnce, IsReplayable};
 ghost use Rattle.world_rounds.specs.Outside.{AddRunsAlone};
 ghost use Rattle.world_rounds.specs.Rounds.{ReplaysAndQueues};
 ghost use Rattle.world_rounds.specs.declared.types.Event.TheVariants as event;
 
-use crate::types::{EngineFault, arrival_of, inbox_of, stored_of};
 use bytes::Bytes;
 use engine_effects::Effect;
-use engine_inboxes::{Brought, Inbox, InboxFault, Waiting};
+use engine_inboxes::{
+    Brought, EngineFault, Inbox, InboxFault, Waiting, arrival_of, inbox_of, stored_of,
+};
 use journal_protocol::{Encoder, Message, Notification, NotificationResult, Signal};
 use std::alloc::{AllocError, Global};
 use std::marker::Model;

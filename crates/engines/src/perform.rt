@@ -4,12 +4,11 @@ ghost use Rattle.std.specs.Option.{option_map};
 ghost use Rattle.engine_inboxes.specs.declared.types.Brought.TheVariants as brought;
 ghost use Rattle.engines.specs.Engines.{AddsCallee, BeginsFor, ChangesAt, DoesEffect, Sends};
 ghost use Rattle.engines.specs.Lookups.{brought_for, callee_in, callee_of, callee_id, no_handler, callee_result};
-ghost use Rattle.engines.specs.Faults.{IsMemoryOrFull};
+ghost use Rattle.engine_inboxes.specs.Faults.{IsMemoryOrFull};
 
 use crate::engine::{Engine, Invocation};
-use crate::types::{Begun, Callee, EngineFault, Order};
 use engine_effects::{Beginning, Effect, Sent};
-use engine_inboxes::{Brought, Waiting};
+use engine_inboxes::{Begun, Brought, Callee, EngineFault, Order, Waiting};
 use journal_protocol::{Failure, ValueOrFailure};
 use plain::{Items, Text};
 use std::alloc::{AllocError, Global};

@@ -1,7 +1,8 @@
 // What the tests share: a parent and a child, and a schedule in which attempts are lost once.
 use bytes::Bytes;
 use engine_fences::{Asked, FencedEngine};
-use engines::{Engine, Happening, Member, Order, Target};
+use engine_inboxes::{Order, Target};
+use engines::{Engine, Happening, Member};
 use handler_plans::plan::Plan;
 use handler_plans::reading::plan_of;
 use journal_protocol::Version;

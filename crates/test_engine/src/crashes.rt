@@ -3,7 +3,8 @@ use crate::bench::{
 };
 use bytes::Bytes;
 use engine_fences::FencedEngine;
-use engines::{Engine, Happening, Target};
+use engine_inboxes::Target;
+use engines::{Engine, Happening};
 use handler_plans::plan::Plan;
 use journal_entries::entry::said_at;
 use journal_protocol::{ValueOrFailure, Version};

@@ -1,7 +1,7 @@
 // The check before a new version of a handler takes over, on a journal that an engine has stored, with each of its outcomes.
 use crate::bench::{Loss, member_at, played, targets, with_loss};
 use bytes::Bytes;
-use engines::Target;
+use engine_inboxes::Target;
 use handler_plans::plan::Plan;
 use journal_entries::JournalFault;
 use journal_protocol::Version;

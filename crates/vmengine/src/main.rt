@@ -1,8 +1,8 @@
 //! `vmengine`: plays a script of many invocations from standard input, and prints its report.
 #![tactic(auto)]
 
+use engine_lines::run_end::{Ending, Refusal, RunEnd};
 use engine_scripts::run::run;
-use engine_scripts::run_end::{Ending, Refusal, RunEnd};
 use program_runs::command_line::asks_for_help;
 use program_runs::streams::Plain;
 use std::env::{self, Env};

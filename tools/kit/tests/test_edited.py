@@ -29,7 +29,7 @@ class Copies(unittest.TestCase):
     def test_all_fit_the_sources_together(self) -> None:
         crates = Crates(TOP)
         made = edited.write_edited(crates, edited.edits(), self.room)
-        self.assertEqual([it.name for it in made], [f"edited_{it}" for it in ("engine_inboxes", "engines", "engine_scripts", "vmengine")])
+        self.assertEqual([it.name for it in made], [f"edited_{it}" for it in ("engine_inboxes", "engine_lines", "engines", "engine_scripts", "vmengine")])
         for it in edited.edits():
             self.assertTrue(it.changes, it.what)
             for name, _, new in it.changes:

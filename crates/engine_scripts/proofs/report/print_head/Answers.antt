@@ -1,6 +1,7 @@
 use Rattle.std.proofs.Common.{codes}
-use Rattle.engine_scripts.specs.Printed.{called_text, options_text, word_and_count}
-use Rattle.engine_scripts.proofs.Printing.{four_added}
+use Rattle.engine_lines.specs.Parts.{word_and_count}
+use Rattle.engine_scripts.specs.Printed.{called_text, options_text}
+use Rattle.engine_lines.proofs.Printing.{four_added}
 use Rattle.engine_scripts.proofs.report.print_head.Goals as goal
 
 pub returns : goal.returns

@@ -1,5 +1,5 @@
 use Rattle.std.proofs.Common.{sym, subst}
-use Rattle.engines.specs.Faults.{IsMemoryOrFull}
+use Rattle.engine_inboxes.specs.Faults.{IsMemoryOrFull}
 use Rattle.engines.proofs.Beginnings.{outside_alone}
 use Rattle.engines.proofs.Storing.{one_stored}
 use Rattle.engines.proofs.member.store_one.Goals as goal

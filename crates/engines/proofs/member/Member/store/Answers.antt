@@ -1,6 +1,6 @@
 use Rattle.std.proofs.Common.{length, sym, ap, subst}
 use Rattle.world_rounds.specs.Rounds.{ReplaysAndQueues}
-use Rattle.engines.specs.Faults.{IsMemoryOrFull}
+use Rattle.engine_inboxes.specs.Faults.{IsMemoryOrFull}
 use Rattle.engines.specs.Members.{MemberView}
 use Rattle.engines.proofs.Beginnings.{first_replayable, store_lasts, store_memory}
 use Rattle.engines.proofs.member.Member.store.Goals as goal

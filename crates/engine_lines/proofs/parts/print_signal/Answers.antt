@@ -1,7 +1,7 @@
 use Rattle.std.proofs.Common.{codes}
 use Rattle.frame_values.specs.Choices.{notification_result_notation, signal_notation}
-use Rattle.engine_scripts.proofs.Printing.{four_added}
-use Rattle.engine_scripts.proofs.report.print_signal.Goals as goal
+use Rattle.engine_lines.proofs.Printing.{four_added}
+use Rattle.engine_lines.proofs.parts.print_signal.Goals as goal
 
 pub returns : goal.returns
 returns c =

@@ -1,7 +1,7 @@
 //! How a run ends, and the exit status of each end.
 ghost use Rattle.std.specs.Prelude.{◌≡◌};
 
-use engines::EngineFault;
+use engine_inboxes::EngineFault;
 use program_runs::exit_status::{ExitStatus, HasStatus};
 
 /// How a script ends.
@@ -26,7 +26,7 @@ pub enum Refusal {
 pub type RunEnd = program_runs::run_end::RunEnd<Refusal, Ending>;
 
 impl HasStatus for Ending {
-    ghost use Rattle.engine_scripts.specs.Statuses.{ending_status};
+    ghost use Rattle.engine_lines.specs.Statuses.{ending_status};
 
     ghost status = { λ ending. ending_status ending.stopped_by };
 
@@ -39,7 +39,7 @@ impl HasStatus for Ending {
 }
 
 impl HasStatus for Refusal {
-    ghost use Rattle.engine_scripts.specs.Statuses.{refusal_status};
+    ghost use Rattle.engine_lines.specs.Statuses.{refusal_status};
 
     ghost status = { refusal_status };
 

@@ -1,7 +1,7 @@
 use Rattle.std.proofs.Common.{◌≡◌, ◌++◌, ◌∙◌, ap, codes}
-use Rattle.engine_scripts.specs.Printed.{word_and_count}
-use Rattle.engine_scripts.proofs.Printing.{two_added}
-use Rattle.engine_scripts.proofs.report.print_timer.Goals as goal
+use Rattle.engine_lines.specs.Parts.{word_and_count}
+use Rattle.engine_lines.proofs.Printing.{two_added}
+use Rattle.engine_lines.proofs.parts.print_timer.Goals as goal
 
 pub returns : goal.returns
 returns c =

@@ -1,7 +1,7 @@
 use Rattle.std.proofs.Common.{◌≡◌, length}
 use Rattle.std.specs.Vec.Iter.{into_iter_items, into_iter_len}
-use Rattle.engine_scripts.proofs.Playing.{TargetsOn}
-use Rattle.engine_scripts.proofs.play.targets_of.Given as goal
+use Rattle.engine_lines.proofs.Targets.{TargetsOn}
+use Rattle.engine_lines.proofs.targets.targets_of.Given as goal
 
 abbrev pub invariant-loop-planned : goal.invariant-loop-planned
 invariant-loop-planned l =

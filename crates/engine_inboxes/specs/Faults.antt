@@ -4,8 +4,8 @@ use Rattle.journal_entries.specs.declared.fault.JournalFault.{JournalFault}
 use Rattle.journal_entries.specs.declared.fault.JournalFault.TheVariants as journal_fault
 use Rattle.engine_inboxes.specs.declared.types.InboxFault.{InboxFault}
 use Rattle.engine_inboxes.specs.declared.types.InboxFault.TheVariants as inbox_fault
-use Rattle.engines.specs.declared.types.EngineFault.{EngineFault}
-use Rattle.engines.specs.declared.types.EngineFault.TheVariants as fault
+use Rattle.engine_inboxes.specs.declared.fault.EngineFault.{EngineFault}
+use Rattle.engine_inboxes.specs.declared.fault.EngineFault.TheVariants as fault
 
 -- what the fault of an arrival is
 abbrev pub fault_of_arrival : JournalFault → EngineFault

@@ -2,9 +2,9 @@
 use Rattle.std.specs.Prelude.{Option, Some, None}
 use Rattle.program_runs.specs.declared.exit_status.ExitStatus.{ExitStatus}
 use Rattle.program_runs.specs.declared.exit_status.ExitStatus.TheVariants as status
-use Rattle.engines.specs.declared.types.EngineFault.{EngineFault}
-use Rattle.engine_scripts.specs.declared.run_end.Refusal.{Refusal}
-use Rattle.engine_scripts.specs.declared.run_end.Refusal.TheVariants.{OtherArguments, UnknownContentType, NoMeaning}
+use Rattle.engine_inboxes.specs.declared.fault.EngineFault.{EngineFault}
+use Rattle.engine_lines.specs.declared.run_end.Refusal.{Refusal}
+use Rattle.engine_lines.specs.declared.run_end.Refusal.TheVariants.{OtherArguments, UnknownContentType, NoMeaning}
 
 -- 0 if all events have happened, and their report is written; 1 if a fault has stopped them
 abbrev pub ending_status : Option EngineFault → ExitStatus
