@@ -356,6 +356,22 @@ class Buffers(unittest.TestCase):
         self.assertLess((after - before) * resource.getpagesize(), len(payload) // 2)
         vm.free()
 
+    def test_those_of_what_was_taken(self) -> None:
+        """20,000 sleeps that are taken one by one hold as much as a few. Kept places held 3 MB."""
+        pages, vm = pathlib.Path("/proc/self/statm"), begun()
+        before = 0
+        for number in range(20_100):
+            if number == 100:
+                before = int(pages.read_text().split()[1])
+            handle = vm.sys_sleep(1000)
+            vm.take_output()
+            vm.notify_input(completion(number + 1, b"\0"))
+            vm.do_await(first_completed(handle))
+            self.assertIs(vm.take_notification(handle), VOID)
+        after = int(pages.read_text().split()[1])
+        self.assertLess((after - before) * resource.getpagesize(), 1 << 20)
+        vm.free()
+
     def test_a_part_that_is_gone(self) -> None:
         vm = begun()
         vm.sys_awakeable()

@@ -4,8 +4,8 @@ use Rattle.std.specs.Prelude.{◌&&◌, IsSome, OnOk, OnErr}
 use Rattle.std.specs.Option.{is_some}
 use Rattle.std.proofs.Math.Seq.{take-length, drop-append_seam, take-append_seam}
 use Rattle.std.proofs.lemmas.List.{take-append-drop, length-append, length-drop, take_more}
-use Rattle.journal_protocol.specs.NotificationId.{NotificationId}
-use Rattle.journal_protocol.specs.NotificationResult.{NotificationResult}
+use Rattle.journal_values.specs.declared.notification.NotificationId.{NotificationId}
+use Rattle.journal_values.specs.declared.notification.NotificationResult.{NotificationResult}
 use Rattle.await_arrivals.specs.declared.log.Entry.{Entry}
 use Rattle.await_arrivals.specs.Entries.{not_taken, given_by, all_given, with_results}
 
