@@ -10,7 +10,7 @@ use plain::Fault;
 use std::alloc::{AllocError, Global};
 use vm_asks::request::{give_ids, ids_of};
 use vm_asks::{Command, StateRead};
-use vm_parts::{StateCoverage, StateMap};
+use vm_state::{StateCoverage, StateMap};
 
 /// How many bytes of a value are shown.
 const SHOWN: usize = 120;

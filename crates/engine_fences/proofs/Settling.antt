@@ -4,7 +4,7 @@ use Rattle.std.specs.Prelude.{◌&&◌, is_none, is_some, slice_get}
 use Rattle.journal_entries.specs.Entries.{said_in}
 use Rattle.vm_model.specs.Calls.{Meaning}
 use Rattle.vm_model.specs.Moves.{changed_by}
-use Rattle.vm_parts.specs.declared.context.StateMap.{StateMap}
+use Rattle.vm_state.specs.declared.state_map.StateMap.{StateMap}
 use Rattle.journal_protocol.specs.ValueOrFailure.{ValueOrFailure}
 use Rattle.engine_inboxes.proofs.Coming.{none_some, some_same}
 use Rattle.engines.specs.declared.engine.Engine.{Engine}

@@ -1,7 +1,7 @@
 -- The state of a key, as the exclusive invocations of this key leave it, one after another.
 use Rattle.std.specs.Prelude.{◌≡◌, ℕ, ◌&&◌, Bool, true, false, List, [], ◌∷◌, take, Option, Some, None, slice_get}
-use Rattle.vm_parts.specs.declared.context.StateCoverage.TheVariants.{Complete}
-use Rattle.vm_parts.specs.declared.context.StateMap.{StateMap}
+use Rattle.vm_state.specs.declared.state_map.StateCoverage.TheVariants.{Complete}
+use Rattle.vm_state.specs.declared.state_map.StateMap.{StateMap}
 use Rattle.vm_model.specs.Moves.{changed_by}
 use Rattle.journal_entries.specs.Entries.{said_in}
 use Rattle.engines.specs.declared.engine.Engine.{Engine}

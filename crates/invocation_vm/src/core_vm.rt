@@ -29,8 +29,8 @@ use vm_asks::{Ask, Command, StateRead, asks};
 use vm_awaits::{Awaited, await_tree, drop_cancel, flatten};
 use vm_inputs::close_input;
 use vm_machine::Machine;
-use vm_parts::{StateKey, TrackedCall};
 use vm_retries::RetryPolicy;
+use vm_state::{StateKey, TrackedCall};
 use vm_types::{
     AwaitResponse, AwakeableHandle, CallHandle, CommandRelationship, DeadlineCallHandle,
     EphemeralCompletionId, Input, NonEmptyValue, PayloadOptions, ResponseHead, RunExitResult,

@@ -12,7 +12,7 @@ use std::time::Duration;
 use test_support::frames::{INPUT_TILL, SLEEP_TO_1000, START_1, START_2};
 use test_support::headers::Headers;
 use vm_machine::Machine;
-use vm_parts::Counters;
+use vm_state::Counters;
 use vm_types::{CommandRelationship, CommandType, PayloadOptions, Target, VMOptions, VMResult};
 
 /// The greatest number of each counter.

@@ -3,7 +3,7 @@ use bytes::Bytes;
 use plain::Text;
 use std::alloc::{AllocError, Global};
 use std::test::Fail;
-use vm_parts::{Known, StateCoverage, StateKey, StateMap};
+use vm_state::{Known, StateCoverage, StateKey, StateMap};
 
 /// A state to which each key was set, in this order.
 fn state_of(

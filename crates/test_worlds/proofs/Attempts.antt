@@ -1,6 +1,6 @@
 -- An honest attempt of the handler that sleeps: what it is fed, so that the premise is seen to be met.
-use Rattle.vm_parts.specs.declared.context.StateCoverage.TheVariants.{Complete, Partial}
-use Rattle.vm_parts.specs.declared.context.StateMap.{StateMap}
+use Rattle.vm_state.specs.declared.state_map.StateCoverage.TheVariants.{Complete, Partial}
+use Rattle.vm_state.specs.declared.state_map.StateMap.{StateMap}
 use Rattle.std.proofs.Common.{◌≡◌, ◌≤◌, ℕ, zero, suc, Bool, true, false, cond, length, List, [], ◌∷◌, ◌++◌, Option, Some, None, refl, sym, ap, subst, ◌∙◌, append-nil, lit<, arith}
 use Rattle.std.specs.Prelude.{◌==◌, ◌||◌, codes}
 use Rattle.std.specs.List.{flat_map}

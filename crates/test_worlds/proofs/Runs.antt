@@ -32,7 +32,7 @@ use Rattle.vm_types.specs.declared.types.CallHandle.{CallHandle}
 use Rattle.vm_types.specs.declared.values.NonEmptyValue.TheVariants.{Success, Failure}
 use Rattle.vm_types.specs.declared.values.Value.TheVariants as value
 use Rattle.vm_types.specs.Options.{default_options}
-use Rattle.vm_parts.specs.Tracked.{unresolved_call}
+use Rattle.vm_state.specs.TrackedCalls.{unresolved_call}
 use Rattle.vm_asks.specs.Asks.{cancel_invocation_command}
 use Rattle.vm_types.specs.CommandTypes.{message_type}
 use Rattle.journal_own_bytes.specs.Bytes.{bytes, list, option, read_byte, read_bytes, read_flag, read_items, read_list, read_option, read_pair, read_text, read_u16, read_u32, read_u64, u16s, u32s, u64s}

@@ -4,8 +4,8 @@ use Rattle.std.specs.Prelude.{ℕ, zero, suc, ◌+◌, ◌<◌, ◌≤◌, ◌^�
 use Rattle.std.specs.Duration.{as_nanos}
 use Rattle.std.specs.Option.{option_or}
 use Rattle.std.specs.declared.time.Duration.{Duration}
-use Rattle.vm_parts.specs.declared.context.Counters.{Counters}
-use Rattle.vm_parts.specs.Counting.{missing_number, missing_indexes}
+use Rattle.vm_state.specs.declared.counters.Counters.{Counters}
+use Rattle.vm_state.specs.Counting.{missing_number, missing_indexes}
 use Rattle.journal_protocol.specs.CallRequest.{CallRequest}
 use Rattle.journal_protocol.specs.NamedFault.{NamedFault}
 use Rattle.journal_protocol.specs.NamedFault.TheVariants as fault

@@ -6,12 +6,12 @@ use Rattle.journal_protocol.specs.Message.TheVariants as message
 use Rattle.journal_protocol.specs.MessageType.{MessageType}
 use Rattle.journal_protocol.specs.MessageType.TheVariants as type
 use Rattle.journal_protocol.specs.Frames.{type_of}
-use Rattle.vm_parts.specs.declared.context.StateMap.{StateMap}
+use Rattle.vm_state.specs.declared.state_map.StateMap.{StateMap}
 use Rattle.vm_types.specs.declared.options.ImplicitCancellationOption.{ImplicitCancellationOption}
-use Rattle.vm_parts.specs.declared.tracked_call.TrackedCall.{TrackedCall}
+use Rattle.vm_state.specs.declared.tracked_call.TrackedCall.{TrackedCall}
 use Rattle.vm_types.specs.Options.{cancels_calls, cancels_sends}
-use Rattle.vm_parts.specs.States.{state_set, state_cleared, all_cleared}
-use Rattle.vm_parts.specs.Tracked.{with_call}
+use Rattle.vm_state.specs.States.{state_set, state_cleared, all_cleared}
+use Rattle.vm_state.specs.TrackedCalls.{with_call}
 
 -- the type that errors show: a state read is shown as its lazy form
 abbrev pub shown_type : Message → MessageType

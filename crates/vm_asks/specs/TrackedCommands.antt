@@ -8,8 +8,8 @@ use Rattle.journal_protocol.specs.Message.TheVariants as message
 use Rattle.journal_protocol.specs.Frames.{type_of}
 use Rattle.vm_types.specs.declared.options.ImplicitCancellationOption.{ImplicitCancellationOption}
 use Rattle.vm_types.specs.declared.options.ImplicitCancellationOption.TheVariants.{Disabled, Enabled}
-use Rattle.vm_parts.specs.declared.tracked_call.TrackedCall.{TrackedCall}
-use Rattle.vm_parts.specs.Tracked.{with_call}
+use Rattle.vm_state.specs.declared.tracked_call.TrackedCall.{TrackedCall}
+use Rattle.vm_state.specs.TrackedCalls.{with_call}
 use Rattle.vm_asks.specs.Requests.{tracked_after}
 
 -- the tracked calls after a command with this first handle, if it is tracked

@@ -19,7 +19,7 @@ use journal_protocol::{
 use plain::Text;
 use std::alloc::Global;
 use std::time::Duration;
-use vm_parts::StateKey;
+use vm_state::StateKey;
 use vm_types::values::write_value;
 use vm_types::{
     Answer, CallHandle, DeadlineCallHandle, NonEmptyValue, PayloadOptions, SendHandle, Step, Target,

@@ -10,7 +10,7 @@ use journal_protocol::{
 };
 use plain::{Items, Text, copy_of};
 use std::alloc::{AllocError, Global};
-use vm_parts::{Known, StateKey, StateMap};
+use vm_state::{Known, StateKey, StateMap};
 
 /// What a handler reads of its state, and the name of the command.
 #[derive(Drop)]

@@ -13,13 +13,13 @@ use Rattle.journal_protocol.specs.Version.{Version}
 use Rattle.journal_protocol.specs.Errors.{no_memory}
 use Rattle.journal_protocol.specs.Bodies.{input_in}
 use Rattle.journal_protocol.specs.Types.{type_number}
-use Rattle.vm_parts.specs.declared.context.StateMap.{StateMap}
+use Rattle.vm_state.specs.declared.state_map.StateMap.{StateMap}
 use Rattle.vm_types.specs.declared.options.VMOptions.{VMOptions}
 use Rattle.vm_types.specs.declared.steps.Answer.{Answer}
 use Rattle.vm_types.specs.declared.steps.Answer.TheVariants as answer
 use Rattle.await_trees.specs.declared.tree.UnresolvedFuture.{UnresolvedFuture}
 use Rattle.vm_types.specs.declared.values.Input.{Input}
-use Rattle.vm_parts.specs.Counting.{missing_number as lacking}
+use Rattle.vm_state.specs.Counting.{missing_number as lacking}
 use Rattle.vm_machine.specs.declared.machine.Machine.{Machine}
 use Rattle.vm_machine.specs.declared.phase.Phase.{Phase}
 use Rattle.vm_machine.specs.declared.phase.Phase.TheVariants.{WaitingStart, WaitingReplayEntries, Replaying, Processing, Closed}
@@ -29,7 +29,7 @@ use Rattle.vm_machine.specs.Skips.{counters_past, skipped}
 use Rattle.vm_types.specs.Options.{skips_replay}
 use Rattle.vm_machine.proofs.Skipping.{input_is}
 use Rattle.journal_entries.specs.Carried.{past_all}
-use Rattle.vm_parts.specs.declared.context.Counters.{Counters}
+use Rattle.vm_state.specs.declared.counters.Counters.{Counters}
 use Rattle.vm_types.specs.declared.options.JournalReplay.TheVariants.{Enabled}
 use Rattle.journal_protocol.specs.SignalDelivery.TheVariants.{Queued}
 use Rattle.vm_model.specs.Deliveries.{HasNoTwo}

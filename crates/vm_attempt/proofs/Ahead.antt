@@ -11,7 +11,7 @@ use Rattle.journal_protocol.specs.Message.TheVariants as message
 use Rattle.vm_runs.specs.Firsts.{with_first, without_first}
 use Rattle.vm_runs.specs.Pending.{handle_of, has_handle, is_one_of, may_execute, run_started, to_execute, is_waiting_run}
 use Rattle.vm_runs.specs.declared.pending.PendingRun.{PendingRun}
-use Rattle.vm_parts.specs.Counting.{next_index}
+use Rattle.vm_state.specs.Counting.{next_index}
 use Rattle.vm_machine.specs.declared.machine.Machine.{Machine}
 use Rattle.vm_awaits.specs.Awaits.{executed}
 use Rattle.vm_machine.specs.Commands.{handed_out, knows_next, prepared, runs_after}

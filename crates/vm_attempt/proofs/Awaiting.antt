@@ -18,7 +18,7 @@ use Rattle.journal_protocol.specs.NotificationId.{NotificationId}
 use Rattle.journal_protocol.specs.NotificationId.TheVariants.{CompletionId}
 use Rattle.journal_protocol.specs.NotificationResult.{NotificationResult}
 use Rattle.journal_protocol.specs.NotificationResult.TheVariants as found
-use Rattle.vm_parts.specs.declared.context.StateMap.{StateMap}
+use Rattle.vm_state.specs.declared.state_map.StateMap.{StateMap}
 use Rattle.journal_protocol.specs.SignalDelivery.TheVariants.{Queued}
 use Rattle.vm_types.specs.declared.steps.Answer.TheVariants as answer
 use Rattle.vm_types.specs.declared.steps.Step.TheVariants as step

@@ -27,7 +27,7 @@ use Rattle.vm_machine.specs.Outcomes.{Outcome, Done, refused, ruled, ruled_by, s
 use Rattle.invocation_vm.specs.Views.{all_received, left_by, received}
 use Rattle.journal_entries.specs.JournalFrames.{is_command_frame, is_ephemeral, is_notification, is_acknowledgement}
 use Rattle.vm_attempt.specs.Blames.{FailsAt, acknowledgement_fault, ephemeral_body_fault, ephemeral_fault, found_fault, unknown_fault, fault_among, fault_by, kept_fault, notification_fault, other_fault, acknowledgement_body_fault, refused_start, start_fault, phase_fault}
-use Rattle.vm_parts.specs.declared.context.StateMap.{StateMap}
+use Rattle.vm_state.specs.declared.state_map.StateMap.{StateMap}
 use Rattle.vm_model.specs.Calls.{Setup}
 use Rattle.vm_model.specs.Moves.{Point, later}
 use Rattle.vm_attempt.specs.Agreement.{Agrees}

@@ -13,9 +13,9 @@ use Rattle.journal_protocol.specs.MessageType.TheVariants as type
 use Rattle.journal_protocol.specs.Errors.{named_error, no_memory}
 use Rattle.journal_protocol.specs.Bodies.{input_in}
 use Rattle.journal_protocol.specs.Types.{type_number}
-use Rattle.vm_parts.specs.declared.context.StateMap.{StateMap}
+use Rattle.vm_state.specs.declared.state_map.StateMap.{StateMap}
 use Rattle.vm_types.specs.declared.steps.Answer.{Answer}
-use Rattle.vm_parts.specs.Counting.{missing_number as lacking}
+use Rattle.vm_state.specs.Counting.{missing_number as lacking}
 use Rattle.vm_machine.specs.declared.machine.Machine.{Machine}
 use Rattle.vm_machine.specs.declared.phase.Phase.{Phase}
 use Rattle.vm_machine.specs.declared.phase.Phase.TheVariants.{WaitingStart, WaitingReplayEntries, Replaying, Processing, Closed}
@@ -25,8 +25,8 @@ use Rattle.vm_machine.specs.Skips.{counters_past, skipped}
 use Rattle.vm_types.specs.Options.{skips_replay}
 use Rattle.vm_machine.proofs.Skipping.{counted_is, past_handle, popped_input}
 use Rattle.journal_entries.specs.Carried.{past_all}
-use Rattle.vm_parts.specs.declared.context.Counters.{Counters}
-use Rattle.vm_parts.specs.Counting.{fresh_counters}
+use Rattle.vm_state.specs.declared.counters.Counters.{Counters}
+use Rattle.vm_state.specs.Counting.{fresh_counters}
 use Rattle.vm_types.specs.declared.options.JournalReplay.{JournalReplay}
 use Rattle.vm_types.specs.declared.options.JournalReplay.TheVariants.{Enabled, Disabled}
 use Rattle.vm_types.specs.declared.values.Input.{Input}

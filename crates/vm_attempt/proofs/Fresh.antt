@@ -15,7 +15,7 @@ use Rattle.vm_machine.specs.Ephemerals.{completed_by, result_comes}
 use Rattle.journal_protocol.specs.Notification.{Notification}
 use Rattle.vm_runs.specs.Kept.{is_for}
 use Rattle.journal_entries.specs.Carried.{AreBelow, AreFrom, AreGreater, all_carried}
-use Rattle.vm_parts.specs.declared.context.Counters.{Counters}
+use Rattle.vm_state.specs.declared.counters.Counters.{Counters}
 use Rattle.journal_protocol.specs.ProposeRunCompletion.{ProposeRunCompletion}
 use Rattle.vm_machine.specs.declared.machine.Machine.{Machine}
 use Rattle.vm_machine.specs.declared.phase.Phase.{Phase}

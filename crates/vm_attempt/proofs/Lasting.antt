@@ -15,7 +15,7 @@ use Rattle.invocation_vm.specs.Views.{View, after_input, all_received}
 use Rattle.vm_model.specs.Calls.{Setup}
 use Rattle.vm_attempt.specs.Heard.{Heard, and_piece, with_pieces}
 use Rattle.vm_attempt.specs.declared.progress.Fed.{Fed}
-use Rattle.vm_parts.specs.declared.context.StateMap.{StateMap}
+use Rattle.vm_state.specs.declared.state_map.StateMap.{StateMap}
 use Rattle.vm_attempt.specs.Agreement.{Agrees}
 use Rattle.vm_attempt.specs.Journals.{setup_for}
 use Rattle.vm_attempt.specs.Stepping.{emptied}

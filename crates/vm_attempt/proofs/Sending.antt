@@ -31,7 +31,7 @@ use Rattle.await_trees.specs.Wires.{sent}
 use Rattle.await_tries.specs.Message.{ids}
 use Rattle.vm_types.specs.declared.values.Value.{Value}
 use Rattle.vm_types.specs.declared.steps.Step.{Step}
-use Rattle.vm_parts.specs.Counting.{missing_number, missing_signals}
+use Rattle.vm_state.specs.Counting.{missing_number, missing_signals}
 use Rattle.vm_parts.specs.Deliveries.{id_at, present_result_for, taken_by}
 use Rattle.vm_types.specs.Values.{value_of, id_of_value}
 use Rattle.vm_asks.specs.declared.asks.Ask.{Ask}
@@ -48,7 +48,7 @@ use Rattle.vm_awaits.specs.Cancels.{AwaitsWhole, Cancels, FinishesIf, Onward, Se
 use Rattle.vm_awaits.proofs.Cancelling.{read_known, woken_used}
 use Rattle.vm_types.specs.Options.{ends_awaits, ignores_payloads, skips_replay}
 use Rattle.vm_parts.specs.Tracked.{id_of_result, invocation_ids, id_noted, unresolved_handles, with_next_id}
-use Rattle.vm_parts.specs.declared.tracked_call.TrackedCall.{TrackedCall}
+use Rattle.vm_state.specs.declared.tracked_call.TrackedCall.{TrackedCall}
 use Rattle.std.specs.Option.{option_and_then}
 use Rattle.journal_protocol.specs.Version.{Version}
 use Rattle.journal_protocol.specs.Commands.{IsCommand}

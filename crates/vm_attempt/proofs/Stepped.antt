@@ -2,7 +2,7 @@
 use Rattle.vm_runs.specs.Pending.{is_executing}
 use Rattle.std.specs.List.{list_any}
 use Rattle.vm_asks.specs.declared.state_read.StateRead.{StateRead}
-use Rattle.vm_parts.specs.declared.context.StateMap.{StateMap}
+use Rattle.vm_state.specs.declared.state_map.StateMap.{StateMap}
 use Rattle.std.proofs.Common.{◌≡◌, ◌⊎◌, ℕ, zero, suc, ◌+◌, Bool, true, false, cond, List, [], ◌∷◌, ◌++◌, map, Option, Some, None, Result, Ok, Err, refl, sym, ap, ◌∙◌, subst, inl, inr, ⊎_elim, append-nil}
 use Rattle.std.specs.Prelude.{if◌then◌else◌, OnOk}
 use Rattle.journal_protocol.specs.Error.{Error}
@@ -22,13 +22,13 @@ use Rattle.await_trees.specs.declared.tree.UnresolvedFuture.{UnresolvedFuture}
 use Rattle.await_trees.specs.Tree.{Tree}
 use Rattle.await_trees.specs.Wires.{sent}
 use Rattle.vm_types.specs.declared.values.Value.{Value}
-use Rattle.vm_parts.specs.Counting.{missing_number, missing_signals}
+use Rattle.vm_state.specs.Counting.{missing_number, missing_signals}
 use Rattle.vm_parts.specs.Deliveries.{id_at, present_result_for}
 use Rattle.journal_protocol.specs.SignalDelivery.TheVariants.{Queued}
 use Rattle.vm_model.specs.Deliveries.{HasNoTwo}
 use Rattle.vm_parts.specs.Tracked.{id_of_result, invocation_ids, id_noted, unresolved_handles}
 use Rattle.vm_types.specs.Values.{id_of_value, value_of}
-use Rattle.vm_parts.specs.declared.tracked_call.TrackedCall.{TrackedCall}
+use Rattle.vm_state.specs.declared.tracked_call.TrackedCall.{TrackedCall}
 use Rattle.vm_machine.specs.declared.machine.Machine.{Machine}
 use Rattle.vm_machine.specs.declared.phase.Phase.TheVariants.{Closed, Processing, Replaying}
 use Rattle.vm_asks.specs.declared.asks.Ask.{Ask}

@@ -14,7 +14,7 @@ use Rattle.journal_protocol.specs.Errors.{error_message, named_error, no_memory}
 use Rattle.journal_protocol.specs.Frames.{encoding, frame}
 use Rattle.vm_parts.specs.declared.context.LastCommand.{LastCommand}
 use Rattle.vm_parts.specs.declared.context.StartInfo.{StartInfo}
-use Rattle.vm_parts.specs.declared.context.StateMap.{StateMap}
+use Rattle.vm_state.specs.declared.state_map.StateMap.{StateMap}
 use Rattle.journal_protocol.specs.ProposeRunCompletion.{ProposeRunCompletion}
 use Rattle.vm_runs.specs.declared.pending.PendingRun.{PendingRun}
 use Rattle.vm_types.specs.declared.steps.Answer.{Answer}

@@ -23,8 +23,8 @@ use Rattle.await_trees.specs.declared.tree.UnresolvedFuture.{UnresolvedFuture}
 use Rattle.journal_protocol.specs.ProposeRunCompletion.{ProposeRunCompletion}
 use Rattle.std.specs.List.{find}
 use Rattle.journal_protocol.specs.Types.{type_number}
-use Rattle.vm_parts.specs.declared.context.StateMap.{StateMap}
-use Rattle.vm_parts.specs.Counting.{fresh_counters}
+use Rattle.vm_state.specs.declared.state_map.StateMap.{StateMap}
+use Rattle.vm_state.specs.Counting.{fresh_counters}
 use Rattle.journal_entries.specs.Carried.{past_all}
 use Rattle.vm_machine.specs.Skips.{counters_past}
 use Rattle.vm_types.specs.declared.options.JournalReplay.TheVariants.{Disabled}

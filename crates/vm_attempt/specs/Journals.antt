@@ -9,10 +9,10 @@ use Rattle.journal_protocol.specs.Start.{Start}
 use Rattle.journal_protocol.specs.MessageType.TheVariants as type
 use Rattle.journal_protocol.specs.Version.{Version}
 use Rattle.journal_protocol.specs.Bodies.{start_in}
-use Rattle.vm_parts.specs.declared.context.StateMap.{StateMap}
+use Rattle.vm_state.specs.declared.state_map.StateMap.{StateMap}
 use Rattle.vm_types.specs.declared.options.VMOptions.{VMOptions}
 use Rattle.vm_types.specs.declared.values.Input.{Input}
-use Rattle.vm_parts.specs.Counting.{fresh_counters}
+use Rattle.vm_state.specs.Counting.{fresh_counters}
 use Rattle.vm_parts.specs.Deliveries.{no_results, none_ready}
 use Rattle.vm_parts.specs.Ephemerals.{no_ephemerals}
 use Rattle.vm_machine.specs.declared.machine.Machine.{Machine}

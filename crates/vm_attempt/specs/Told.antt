@@ -13,7 +13,7 @@ use Rattle.journal_protocol.specs.Start.{Start}
 use Rattle.journal_protocol.specs.Errors.{error_message, named_error, no_memory}
 use Rattle.journal_protocol.specs.Frames.{encoding, IsWhole}
 use Rattle.journal_protocol.specs.Bodies.{start_in}
-use Rattle.vm_parts.specs.declared.context.StateMap.{StateMap}
+use Rattle.vm_state.specs.declared.state_map.StateMap.{StateMap}
 use Rattle.vm_types.specs.declared.options.JournalReplay.TheVariants.{Enabled, Disabled}
 use Rattle.journal_entries.specs.Carried.{AreBelow, AreFrom, AreGreater, all_carried}
 use Rattle.journal_protocol.specs.SignalDelivery.TheVariants.{Queued}

@@ -20,7 +20,7 @@ ghost use Rattle.journal_protocol.specs.SignalDelivery.TheVariants.{Queued};
 ghost use Rattle.vm_model.specs.HonestRounds.{IsToldOn};
 ghost use Rattle.journal_entries.specs.Journal.{Entry, commands_in, input_read_from, notifications_in};
 ghost use Rattle.vm_model.specs.Moves.{Point, later};
-ghost use Rattle.vm_parts.specs.declared.context.StateMap.{StateMap};
+ghost use Rattle.vm_state.specs.declared.state_map.StateMap.{StateMap};
 ghost use Rattle.vm_parts.specs.Outboxes.{WholeFrames};
 ghost use Rattle.vm_attempt.specs.Agreement.{Agrees, Aside, CallFollows};
 ghost use Rattle.vm_attempt.specs.Courses.{FailedByResult, Leads};

@@ -12,7 +12,7 @@ use Rattle.vm_parts.specs.Ephemerals.{any_in_flight}
 use Rattle.vm_runs.specs.declared.pending.PendingRun.{PendingRun}
 use Rattle.vm_types.specs.declared.types.AwaitResponse.{AwaitResponse}
 use Rattle.vm_types.specs.declared.types.AwaitResponse.TheVariants.{AnyCompleted, CancelSignalReceived, EphemeralNotificationReady, ExecuteRun, WaitingExternalProgress}
-use Rattle.vm_parts.specs.declared.tracked_call.TrackedCall.{TrackedCall}
+use Rattle.vm_state.specs.declared.tracked_call.TrackedCall.{TrackedCall}
 use Rattle.vm_parts.specs.Tracked.{IsFirstHandle, id_of_result, unresolved_handles, with_next_id}
 use Rattle.vm_parts.proofs.Tracking.{unresolved-with_next_id}
 use Rattle.vm_machine.specs.declared.fault.Fault.{Fault}

@@ -4,7 +4,7 @@ use Rattle.std.specs.List.{list_all}
 use Rattle.std.specs.Str.{IsUtf8, is_utf8}
 use Rattle.std.proofs.lemmas.Str.{is_utf8-from_IsUtf8}
 use Rattle.std.proofs.lemmas.List.Sums.{fold_push}
-use Rattle.vm_parts.specs.Entries.{entries_of, with_entry}
+use Rattle.vm_state.specs.Entries.{entries_of, with_entry}
 use Rattle.plain.proofs.Places.{from_place}
 use Rattle.vm_types.proofs.Texts.{not_text, take_next}
 

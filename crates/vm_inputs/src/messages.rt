@@ -13,7 +13,8 @@ use journal_protocol::{NamedFault, Notification, NotificationId, RawMessage, Sta
 use plain::{Items, Text};
 use std::alloc::{AllocError, Global};
 use vm_machine::{Fault, Machine, Phase, refuse};
-use vm_parts::{Entries, StartInfo, StateCoverage, StateKey, StateMap};
+use vm_parts::StartInfo;
+use vm_state::{Entries, StateCoverage, StateKey, StateMap};
 
 fn coverage_of(partial: bool) -> StateCoverage
     ensures { result ≡ coverage_of partial }

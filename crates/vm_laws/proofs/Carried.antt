@@ -13,7 +13,7 @@ use Rattle.journal_protocol.specs.Bodies.{message_in}
 use Rattle.journal_protocol.specs.Types.{type_number}
 use Rattle.vm_types.specs.declared.types.AwakeableHandle.{AwakeableHandle}
 use Rattle.await_trees.specs.declared.handle.NotificationHandle.{NotificationHandle}
-use Rattle.vm_parts.specs.Counting.{missing_number, missing_signals, next_index, given_on}
+use Rattle.vm_state.specs.Counting.{missing_number, missing_signals, next_index, given_on}
 use Rattle.vm_machine.specs.declared.machine.Machine.{Machine}
 use Rattle.vm_machine.specs.Commands.{written, phase_after, popped, popped_from, compared, replayed, carried_out, prepared, command_if_counted, issued}
 use Rattle.vm_types.specs.Options.{ignores_payloads}
@@ -23,7 +23,7 @@ use Rattle.vm_asks.specs.Requests.{changed, ids_of, with_ids}
 use Rattle.journal_protocol.specs.NotificationResult.{NotificationResult}
 use Rattle.std.specs.Prelude.{Result, Ok, Err}
 use Rattle.vm_asks.specs.declared.state_read.StateRead.{StateRead}
-use Rattle.vm_parts.specs.declared.context.Counters.{Counters}
+use Rattle.vm_state.specs.declared.counters.Counters.{Counters}
 use Rattle.vm_machine.specs.Commands.{entered, handed_out}
 use Rattle.vm_machine.specs.Reads.{read_back, read_counted, read_popped, read_step, read_written, with_read_ready}
 use Rattle.vm_asks.specs.StateReads.{eager_type, name_read, own_form, recorded_as, recorded_type, result_in, own_result}

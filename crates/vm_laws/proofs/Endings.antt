@@ -38,8 +38,8 @@ use Rattle.await_trees.specs.declared.handle.NotificationHandle.{NotificationHan
 use Rattle.vm_types.specs.declared.values.Value.{Value}
 use Rattle.vm_parts.specs.Deliveries.{id_at, present_result_for, taken_by}
 use Rattle.vm_types.specs.Values.{value_of, id_of_value}
-use Rattle.vm_parts.specs.declared.context.Counters.{Counters}
-use Rattle.vm_parts.specs.Counting.{missing_number, missing_signals}
+use Rattle.vm_state.specs.declared.counters.Counters.{Counters}
+use Rattle.vm_state.specs.Counting.{missing_number, missing_signals}
 use Rattle.vm_types.specs.declared.values.Input.{Input}
 use Rattle.journal_entries.specs.Carried.{past_all}
 use Rattle.vm_machine.specs.Skips.{counters_past, skipped}
@@ -60,11 +60,11 @@ use Rattle.journal_protocol.specs.GetStateEphemeralNotification.{GetStateEphemer
 use Rattle.journal_protocol.specs.VoidOrValue.{VoidOrValue}
 use Rattle.vm_machine.specs.Ephemerals.{completed_by, ephemeral_notification_step, result_comes}
 use Rattle.vm_machine.specs.Reports.{is_retry, related_to, report_step}
-use Rattle.vm_parts.specs.declared.context.Known.{Known}
-use Rattle.vm_parts.specs.declared.context.Known.TheVariants as known_as
-use Rattle.vm_parts.specs.declared.context.StateMap.{StateMap}
+use Rattle.vm_state.specs.declared.state_map.Known.{Known}
+use Rattle.vm_state.specs.declared.state_map.Known.TheVariants as known_as
+use Rattle.vm_state.specs.declared.state_map.StateMap.{StateMap}
 use Rattle.vm_parts.specs.Ephemerals.{any_in_flight}
-use Rattle.vm_parts.specs.States.{value_known, known_keys}
+use Rattle.vm_state.specs.States.{value_known, known_keys}
 use Rattle.vm_asks.specs.declared.state_read.StateRead.{StateRead}
 use Rattle.vm_asks.specs.declared.state_read.StateRead.TheVariants as reads
 use Rattle.vm_machine.specs.Reads.{read_back, read_counted, read_popped, read_step, read_written, with_read_ready}
@@ -90,7 +90,7 @@ use Rattle.vm_machine.specs.Proposals.{run_at}
 use Rattle.vm_awaits.proofs.Cancelling.{Keeps, woken_keeps, read_keeps}
 use Rattle.vm_types.specs.Options.{ends_awaits, ignores_payloads, skips_replay}
 use Rattle.vm_parts.specs.Tracked.{id_of_result, id_noted, unresolved_handles, with_next_id}
-use Rattle.vm_parts.specs.declared.tracked_call.TrackedCall.{TrackedCall}
+use Rattle.vm_state.specs.declared.tracked_call.TrackedCall.{TrackedCall}
 use Rattle.std.specs.Option.{option_and_then}
 
 -- ---- nothing is written

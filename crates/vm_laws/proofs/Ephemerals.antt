@@ -10,11 +10,11 @@ use Rattle.journal_protocol.specs.GetStateEphemeralNotification.{GetStateEphemer
 use Rattle.journal_protocol.specs.VoidOrValue.{VoidOrValue}
 use Rattle.vm_types.specs.declared.types.EphemeralCompletionId.{EphemeralCompletionId}
 use Rattle.vm_types.specs.declared.values.Value.{Value}
-use Rattle.vm_parts.specs.Counting.{missing_ephemeral}
+use Rattle.vm_state.specs.Counting.{missing_ephemeral}
 use Rattle.vm_parts.specs.Ephemerals.{value_at, without_ready}
-use Rattle.vm_parts.specs.States.{value_known}
-use Rattle.vm_parts.specs.declared.context.Known.{Known}
-use Rattle.vm_parts.specs.declared.context.Known.TheVariants as known_as
+use Rattle.vm_state.specs.States.{value_known}
+use Rattle.vm_state.specs.declared.state_map.Known.{Known}
+use Rattle.vm_state.specs.declared.state_map.Known.TheVariants as known_as
 use Rattle.vm_machine.specs.declared.machine.Machine.{Machine}
 use Rattle.vm_machine.specs.declared.phase.Phase.{Phase}
 use Rattle.vm_machine.specs.declared.phase.Phase.TheVariants.{WaitingStart, WaitingReplayEntries, Replaying, Processing, Closed}

@@ -18,7 +18,7 @@ use Rattle.journal_protocol.specs.Bodies.{message_in}
 use Rattle.await_trees.specs.declared.handle.NotificationHandle.{NotificationHandle}
 use Rattle.vm_types.specs.declared.types.DeadlineCallHandle.{DeadlineCallHandle}
 use Rattle.vm_parts.specs.declared.async_results.Mapping.{Mapping}
-use Rattle.vm_parts.specs.Counting.{missing_number}
+use Rattle.vm_state.specs.Counting.{missing_number}
 use Rattle.vm_asks.specs.declared.command.Command.{Command}
 use Rattle.vm_asks.specs.Asks.{all_ids, any_refusal, deadline_handles, sleep_command, missing_for}
 use Rattle.vm_asks.specs.GivenIds.{IsCallWith}
@@ -34,7 +34,7 @@ use Rattle.vm_machine.specs.Several.{BehindFirst, MakesAll, MakesOne, answered_s
 use Rattle.invocation_vm.specs.Calls.{CallsAll, CallsAllFor, result_by}
 use Rattle.invocation_vm.specs.Views.{AnswersFirst, View}
 use Rattle.invocation_vm.proofs.Failing.{viewed}
-use Rattle.vm_parts.specs.declared.context.Counters.{Counters}
+use Rattle.vm_state.specs.declared.counters.Counters.{Counters}
 use Rattle.vm_laws.specs.Numbers.{Counted}
 use Rattle.vm_laws.specs.Deadlines.{DeadlineCalled, IsEntered, IsSleepWith, MakesBoth, stands_for}
 use Rattle.vm_laws.specs.Replays.{ignores}

@@ -8,7 +8,7 @@ use Rattle.journal_protocol.specs.NamedFault.TheVariants as fault
 use Rattle.await_trees.specs.declared.handle.NotificationHandle.{NotificationHandle}
 use Rattle.journal_protocol.specs.Message.{Message}
 use Rattle.journal_protocol.specs.Message.TheVariants as message
-use Rattle.vm_parts.specs.Counting.{missing_number}
+use Rattle.vm_state.specs.Counting.{missing_number}
 use Rattle.vm_machine.specs.declared.machine.Machine.{Machine}
 use Rattle.vm_machine.specs.declared.phase.Phase.{Phase}
 use Rattle.vm_machine.specs.declared.phase.Phase.TheVariants.{Processing}

@@ -9,10 +9,10 @@ use Rattle.journal_protocol.specs.VoidOrValue.{VoidOrValue}
 use Rattle.journal_protocol.specs.VoidOrValue.TheVariants as stored
 use Rattle.vm_types.specs.declared.values.Value.{Value}
 use Rattle.vm_types.specs.declared.values.Value.TheVariants as value
-use Rattle.vm_parts.specs.Counting.{most}
-use Rattle.vm_parts.specs.States.{value_known}
-use Rattle.vm_parts.specs.declared.context.Known.{Known}
-use Rattle.vm_parts.specs.declared.context.Known.TheVariants.{Unknown, Empty, Value as Holds}
+use Rattle.vm_state.specs.Counting.{most}
+use Rattle.vm_state.specs.States.{value_known}
+use Rattle.vm_state.specs.declared.state_map.Known.{Known}
+use Rattle.vm_state.specs.declared.state_map.Known.TheVariants.{Unknown, Empty, Value as Holds}
 use Rattle.vm_machine.specs.declared.machine.Machine.{Machine}
 use Rattle.journal_protocol.specs.Bodies.{ephemeral_notification_in}
 use Rattle.vm_machine.specs.Ephemerals.{ephemeral_notification_step, take_ephemeral_step}

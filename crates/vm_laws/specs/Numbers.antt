@@ -1,6 +1,6 @@
 -- How many numbers were given.
 use Rattle.std.specs.Prelude.{◌≡◌, ℕ, ◌+◌}
-use Rattle.vm_parts.specs.declared.context.Counters.{Counters}
+use Rattle.vm_state.specs.declared.counters.Counters.{Counters}
 
 -- these counts of completion ids, signal ids and handles were given
 pub record Counted (ids signal_ids given : ℕ) (old new : Counters) : Type 0 where

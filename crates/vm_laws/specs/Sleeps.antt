@@ -4,7 +4,7 @@ use Rattle.journal_protocol.specs.Message.TheVariants as message
 use Rattle.journal_protocol.specs.NotificationId.TheVariants.{CompletionId}
 use Rattle.journal_protocol.specs.MessageType.TheVariants as type
 use Rattle.journal_protocol.specs.Frames.{encoding}
-use Rattle.vm_parts.specs.Counting.{missing_number, next_index}
+use Rattle.vm_state.specs.Counting.{missing_number, next_index}
 use Rattle.vm_machine.specs.declared.machine.Machine.{Machine}
 use Rattle.vm_machine.specs.declared.phase.Phase.TheVariants.{Processing}
 

@@ -2,7 +2,7 @@
 ghost use Rattle.std.specs.Prelude.{◌≡◌, List, None, Some, ℕ};
 ghost use Rattle.journal_protocol.specs.NamedFault.{NamedFault};
 ghost use Rattle.vm_types.specs.declared.types.EphemeralCompletionId.{EphemeralCompletionId};
-ghost use Rattle.vm_parts.specs.States.{value_known};
+ghost use Rattle.vm_state.specs.States.{value_known};
 ghost use Rattle.vm_machine.specs.declared.machine.Machine.{Machine};
 ghost use Rattle.vm_machine.specs.Ephemerals.{ephemeral_step};
 ghost use Rattle.vm_machine.specs.Outcomes.{Done, refused};

@@ -5,7 +5,7 @@ use Rattle.journal_protocol.specs.Error.{Error}
 use Rattle.journal_protocol.specs.NamedFault.{NamedFault}
 use Rattle.journal_protocol.specs.Message.{Message}
 use Rattle.await_trees.specs.declared.handle.NotificationHandle.{NotificationHandle}
-use Rattle.vm_parts.specs.Counting.{missing_number}
+use Rattle.vm_state.specs.Counting.{missing_number}
 use Rattle.vm_asks.specs.declared.command.Command.{Command}
 use Rattle.vm_asks.specs.Asks.{all_ids, any_refusal, missing_for}
 use Rattle.vm_asks.specs.Requests.{ids_of, name_of, shown_type, with_ids}

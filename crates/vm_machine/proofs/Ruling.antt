@@ -1,7 +1,7 @@
 -- The error rule of an event that wasn't carried out is that of its answer.
 use Rattle.std.proofs.Common.{◌≡◌, ◌∙◌, ap, inl, inr, Result, Err}
 use Rattle.journal_protocol.specs.Error.{Error}
-use Rattle.vm_parts.specs.declared.context.Counters.{Counters}
+use Rattle.vm_state.specs.declared.counters.Counters.{Counters}
 use Rattle.vm_machine.specs.declared.fault.Fault.{Fault}
 use Rattle.vm_machine.specs.declared.fault.Fault.TheVariants as fault
 use Rattle.vm_machine.specs.declared.machine.Machine.{Machine}

@@ -15,8 +15,8 @@ use Rattle.journal_protocol.specs.Message.TheVariants as message
 use Rattle.journal_protocol.specs.RawMessage.{RawMessage}
 use Rattle.journal_protocol.specs.Bodies.{input_in, message_in}
 use Rattle.journal_entries.specs.Carried.{AreBelow, all_carried, carried, carried_by, past, past_all, read_carried, read_past}
-use Rattle.vm_parts.specs.declared.context.Counters.{Counters}
-use Rattle.vm_parts.specs.Counting.{missing_number, most, next_index}
+use Rattle.vm_state.specs.declared.counters.Counters.{Counters}
+use Rattle.vm_state.specs.Counting.{missing_number, most, next_index}
 use Rattle.vm_types.specs.declared.values.Input.{Input}
 use Rattle.vm_machine.specs.declared.machine.Machine.{Machine}
 use Rattle.vm_machine.specs.declared.phase.Phase.{Phase}

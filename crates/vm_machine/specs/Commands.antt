@@ -15,7 +15,7 @@ use Rattle.journal_protocol.specs.Equality.{header_equal}
 use Rattle.journal_protocol.specs.Types.{type_number}
 use Rattle.vm_types.specs.Options.{ignores_payloads}
 use Rattle.await_trees.specs.declared.handle.NotificationHandle.{NotificationHandle}
-use Rattle.vm_parts.specs.Counting.{next_index, missing_number, given_on}
+use Rattle.vm_state.specs.Counting.{next_index, missing_number, given_on}
 use Rattle.vm_parts.specs.Deliveries.{is_known}
 use Rattle.vm_parts.specs.Mappings.{mapped_from}
 use Rattle.vm_asks.specs.declared.command.Command.{Command}

@@ -14,11 +14,11 @@ use Rattle.journal_protocol.specs.VoidOrValue.TheVariants as stored
 use Rattle.vm_types.specs.declared.types.EphemeralCompletionId.{EphemeralCompletionId}
 use Rattle.vm_types.specs.declared.values.Value.{Value}
 use Rattle.vm_types.specs.declared.values.Value.TheVariants as value
-use Rattle.vm_parts.specs.Counting.{missing_ephemeral}
+use Rattle.vm_state.specs.Counting.{missing_ephemeral}
 use Rattle.vm_parts.specs.Ephemerals.{any_ready, with_read_completed, is_ready, value_at, with_in_flight, with_ready, without_ready}
-use Rattle.vm_parts.specs.States.{value_known}
-use Rattle.vm_parts.specs.declared.context.Known.{Known}
-use Rattle.vm_parts.specs.declared.context.Known.TheVariants.{Unknown, Empty, Value as Holds}
+use Rattle.vm_state.specs.States.{value_known}
+use Rattle.vm_state.specs.declared.state_map.Known.{Known}
+use Rattle.vm_state.specs.declared.state_map.Known.TheVariants.{Unknown, Empty, Value as Holds}
 use Rattle.vm_machine.specs.declared.machine.Machine.{Machine}
 use Rattle.vm_machine.specs.declared.phase.Phase.{Phase}
 use Rattle.vm_machine.specs.declared.phase.Phase.TheVariants.{Replaying, Processing, Closed}

@@ -19,13 +19,13 @@ use Rattle.vm_runs.specs.Kept.{is_for}
 use Rattle.journal_entries.specs.Proposals.{acknowledged_completion}
 use Rattle.journal_protocol.specs.ProposeRunCompletion.{ProposeRunCompletion}
 use Rattle.journal_protocol.specs.Types.{type_number}
-use Rattle.vm_parts.specs.declared.context.Counters.{Counters}
+use Rattle.vm_state.specs.declared.counters.Counters.{Counters}
 use Rattle.vm_parts.specs.declared.context.StartInfo.{StartInfo}
-use Rattle.vm_parts.specs.declared.context.StateCoverage.{StateCoverage}
-use Rattle.vm_parts.specs.declared.context.StateCoverage.TheVariants.{Partial, Complete}
+use Rattle.vm_state.specs.declared.state_map.StateCoverage.{StateCoverage}
+use Rattle.vm_state.specs.declared.state_map.StateCoverage.TheVariants.{Partial, Complete}
 use Rattle.vm_types.specs.declared.values.Input.{Input}
-use Rattle.vm_parts.specs.Counting.{missing_number}
-use Rattle.vm_parts.specs.Entries.{entries_of}
+use Rattle.vm_state.specs.Counting.{missing_number}
+use Rattle.vm_state.specs.Entries.{entries_of}
 use Rattle.vm_parts.specs.Starts.{start_info_of}
 use Rattle.vm_machine.specs.declared.fault.Fault.{Fault}
 use Rattle.vm_machine.specs.declared.fault.Fault.TheVariants as stopped

@@ -4,9 +4,9 @@ use Rattle.std.proofs.Common.{Global}
 use Rattle.journal_protocol.specs.MessageType.TheVariants.{Start}
 use Rattle.journal_protocol.specs.Version.{Version}
 use Rattle.vm_parts.specs.declared.context.StartInfo.{StartInfo}
-use Rattle.vm_parts.specs.declared.context.StateCoverage.TheVariants.{Partial}
+use Rattle.vm_state.specs.declared.state_map.StateCoverage.TheVariants.{Partial}
 use Rattle.vm_types.specs.declared.options.VMOptions.{VMOptions}
-use Rattle.vm_parts.specs.Counting.{fresh_counters}
+use Rattle.vm_state.specs.Counting.{fresh_counters}
 use Rattle.vm_parts.specs.Deliveries.{no_results}
 use Rattle.vm_parts.specs.Ephemerals.{no_ephemerals}
 use Rattle.vm_machine.specs.declared.machine.Machine.{Machine}

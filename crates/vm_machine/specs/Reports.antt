@@ -8,7 +8,7 @@ use Rattle.journal_protocol.specs.NamedFault.TheVariants as fault
 use Rattle.vm_types.specs.declared.command_type.CommandRelationship.{CommandRelationship}
 use Rattle.vm_types.specs.declared.command_type.CommandRelationship.TheVariants.{Last, Next, Specific}
 use Rattle.vm_types.specs.CommandTypes.{message_type}
-use Rattle.vm_parts.specs.Counting.{next_index}
+use Rattle.vm_state.specs.Counting.{next_index}
 use Rattle.vm_machine.specs.declared.machine.Machine.{Machine}
 use Rattle.vm_machine.specs.Outcomes.{Outcome, Failed, refused, last_related}
 use Rattle.journal_protocol.specs.Versions.{is_from_v7}

@@ -3,8 +3,8 @@
 use Rattle.std.specs.Prelude.{ℕ, ◌+◌, ◌==◌, if◌then◌else◌, nat_lt, [], Some, unwrap_or, Result, Ok, Err}
 use Rattle.journal_protocol.specs.NamedFault.{NamedFault}
 use Rattle.journal_protocol.specs.NamedFault.TheVariants.{ExhaustedCompletionIds, ExhaustedCommandIndexes}
-use Rattle.vm_parts.specs.declared.context.Counters.{Counters}
-use Rattle.vm_parts.specs.Counting.{most, next_index}
+use Rattle.vm_state.specs.declared.counters.Counters.{Counters}
+use Rattle.vm_state.specs.Counting.{most, next_index}
 use Rattle.vm_machine.specs.declared.machine.Machine.{Machine}
 use Rattle.vm_machine.specs.declared.phase.Phase.TheVariants.{Processing}
 

@@ -12,7 +12,7 @@ use bytes::Bytes;
 use journal_protocol::{GetStateEphemeralCommand, Message, NamedFault, Version, VoidOrValue};
 use plain::{Text, copy_of};
 use std::alloc::AllocError;
-use vm_parts::{Known, StateKey};
+use vm_state::{Known, StateKey};
 use vm_types::{EphemeralCompletionId, Value};
 
 /// Why a key can't be asked for, by what is known of it: nothing comes where the input is closed.

@@ -8,10 +8,10 @@ use journal_protocol::{Error, MessageType, RawMessage, Version};
 use plain::Text;
 use std::alloc::{AllocError, Global};
 use vm_parts::{
-    AsyncResults, Counters, EphemeralCommands, LastCommand, Outbox, Queue, StartInfo,
-    StateCoverage, StateMap, TrackedCalls,
+    AsyncResults, EphemeralCommands, LastCommand, Outbox, Queue, StartInfo, TrackedCalls,
 };
 use vm_runs::{KeptProposals, RunState};
+use vm_state::{Counters, StateCoverage, StateMap};
 use vm_types::VMOptions;
 
 /// All that a machine is.

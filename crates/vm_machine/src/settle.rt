@@ -10,7 +10,7 @@ use crate::fault::Fault;
 use crate::machine::Machine;
 use journal_protocol::{Error, ErrorBehavior, Message, NamedFault, Version};
 use std::alloc::{AllocError, Global};
-use vm_parts::Counters;
+use vm_state::Counters;
 use vm_types::JournalMismatchRetryBehavior;
 
 fn mismatch_behavior(option: JournalMismatchRetryBehavior) -> ErrorBehavior

@@ -11,7 +11,7 @@ use journal_protocol::{NamedFault, RawMessage};
 use plain::Fault;
 use std::alloc::{AllocError, Global};
 use vm_asks::request::past;
-use vm_parts::Counters;
+use vm_state::Counters;
 use vm_types::JournalReplay;
 
 /// Whether recorded commands are skipped.

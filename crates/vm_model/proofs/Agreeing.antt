@@ -2,7 +2,7 @@
 use Rattle.std.proofs.Common.{◌≡◌, ℕ, zero, suc, List, [], ◌∷◌, ◌++◌, Some, refl, sym, ap, ◌∙◌}
 use Rattle.journal_protocol.specs.InputCommand.{InputCommand}
 use Rattle.journal_protocol.specs.RawMessage.{RawMessage}
-use Rattle.vm_parts.specs.declared.context.StateMap.{StateMap}
+use Rattle.vm_state.specs.declared.state_map.StateMap.{StateMap}
 use Rattle.vm_types.specs.declared.steps.Step.{Step}
 use Rattle.vm_model.specs.Calls.{Setup, Meaning, call_of}
 use Rattle.journal_entries.specs.Journal.{Entry, commands_in, input_read_from, notifications_in}

@@ -20,7 +20,7 @@ use Rattle.journal_protocol.specs.SignalDelivery.{SignalDelivery}
 use Rattle.vm_types.specs.declared.steps.Answer.TheVariants as answer
 use Rattle.await_trees.specs.declared.tree.UnresolvedFuture.{UnresolvedFuture}
 use Rattle.vm_parts.specs.Arrived.{Ready}
-use Rattle.vm_parts.specs.Counting.{missing_number}
+use Rattle.vm_state.specs.Counting.{missing_number}
 use Rattle.vm_parts.specs.Deliveries.{id_at, is_listed, present_among, present_result_for, same_id, with_delivered}
 use Rattle.vm_types.specs.Options.{ends_awaits, ignores_payloads}
 use Rattle.vm_parts.specs.Tracked.{id_of_result, invocation_ids, unresolved_handles, with_next_id, without_first_call}

@@ -8,11 +8,11 @@ use Rattle.journal_protocol.specs.GetEagerStateCommand.{GetEagerStateCommand}
 use Rattle.journal_protocol.specs.GetEagerStateKeysCommand.{GetEagerStateKeysCommand}
 use Rattle.journal_protocol.specs.Frames.{IsWhole, type_of}
 use Rattle.journal_protocol.specs.Bodies.{message_in}
-use Rattle.vm_parts.specs.declared.context.Known.TheVariants.{Unknown}
-use Rattle.vm_parts.specs.States.{value_known, known_keys}
+use Rattle.vm_state.specs.declared.state_map.Known.TheVariants.{Unknown}
+use Rattle.vm_state.specs.States.{value_known, known_keys}
 use Rattle.vm_asks.specs.declared.state_read.StateRead.TheVariants as reads
 use Rattle.vm_asks.specs.StateReads.{own_form}
-use Rattle.vm_parts.specs.declared.context.StateMap.{StateMap}
+use Rattle.vm_state.specs.declared.state_map.StateMap.{StateMap}
 use Rattle.vm_types.specs.declared.steps.Answer.{Answer}
 use Rattle.vm_types.specs.declared.steps.Step.{Step}
 use Rattle.vm_types.specs.declared.steps.Step.TheVariants as step

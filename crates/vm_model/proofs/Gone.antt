@@ -13,7 +13,7 @@ use Rattle.vm_types.specs.declared.steps.Answer.TheVariants as answer
 use Rattle.vm_types.specs.declared.values.Value.{Value}
 use Rattle.await_trees.specs.declared.handle.NotificationHandle.{NotificationHandle}
 use Rattle.vm_parts.specs.declared.async_results.Mapping.{Mapping}
-use Rattle.vm_parts.specs.declared.tracked_call.TrackedCall.{TrackedCall}
+use Rattle.vm_state.specs.declared.tracked_call.TrackedCall.{TrackedCall}
 use Rattle.vm_parts.specs.Deliveries.{id_at, present_result_for, unmapped}
 use Rattle.vm_parts.specs.Tracked.{TrackedAbove, TrackedAscend, if_unresolved, is_tracked, id_noted, unresolved_handles, with_invocation_id}
 use Rattle.vm_types.specs.Values.{id_of_value, value_of}

@@ -1,8 +1,8 @@
 -- What was handed out honestly, or whole, lasts: as it was then, a call may know it later.
 use Rattle.std.proofs.Common.{◌≡◌, List, [], ◌∷◌, ◌++◌, refl, ap}
 use Rattle.journal_protocol.specs.Message.{Message}
-use Rattle.vm_parts.specs.declared.context.StateMap.{StateMap}
-use Rattle.vm_parts.specs.Entries.{IsInOrder}
+use Rattle.vm_state.specs.declared.state_map.StateMap.{StateMap}
+use Rattle.vm_state.specs.Entries.{IsInOrder}
 use Rattle.journal_entries.specs.Journal.{Entry, Recorded, Notified, commands_in, notifications_in}
 use Rattle.vm_model.specs.Moves.{changed_by}
 use Rattle.vm_model.specs.Histories.{Handed, Honest, Knowledge, Whole}

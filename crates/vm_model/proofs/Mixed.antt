@@ -4,8 +4,8 @@ use native.Mathlib.Nat.{zero-add, suc-add}
 use Rattle.journal_protocol.specs.Message.{Message}
 use Rattle.journal_protocol.specs.RawMessage.{RawMessage}
 use Rattle.journal_protocol.specs.Notification.{Notification}
-use Rattle.vm_parts.specs.declared.context.StateMap.{StateMap}
-use Rattle.vm_parts.specs.Entries.{IsInOrder}
+use Rattle.vm_state.specs.declared.state_map.StateMap.{StateMap}
+use Rattle.vm_state.specs.Entries.{IsInOrder}
 use Rattle.vm_model.specs.Alike.{AlikeHandlers, IsOneRunAlike, MadeAlike, saying}
 use Rattle.vm_model.specs.Calls.{Setup, Meaning}
 use Rattle.journal_entries.specs.Journal.{Entry, commands_in, messages_in, notifications_in}

@@ -12,8 +12,8 @@ use Rattle.journal_protocol.specs.NotificationResult.{NotificationResult}
 use Rattle.await_trees.specs.declared.handle.NotificationHandle.{NotificationHandle}
 use Rattle.await_trees.specs.declared.tree.UnresolvedFuture.{UnresolvedFuture}
 use Rattle.vm_parts.specs.declared.async_results.Mapping.{Mapping}
-use Rattle.vm_parts.specs.declared.tracked_call.TrackedCall.{TrackedCall}
-use Rattle.vm_parts.specs.Counting.{missing_number, missing_signals}
+use Rattle.vm_state.specs.declared.tracked_call.TrackedCall.{TrackedCall}
+use Rattle.vm_state.specs.Counting.{missing_number, missing_signals}
 use Rattle.vm_parts.specs.Deliveries.{id_at, present_result_for}
 use Rattle.vm_parts.specs.Tracked.{id_of_result, invocation_ids, id_noted, unresolved_handles}
 use Rattle.vm_types.specs.Values.{id_of_value, value_of}

@@ -36,11 +36,12 @@ use Rattle.vm_types.specs.Values.{value_of, id_of_value}
 use Rattle.await_trees.specs.declared.handle.NotificationHandle.{NotificationHandle}
 use Rattle.await_trees.specs.declared.tree.UnresolvedFuture.{UnresolvedFuture}
 use Rattle.vm_parts.specs.declared.async_results.Mapping.{Mapping}
-use Rattle.vm_parts.specs.declared.context.Counters.{Counters}
-use Rattle.vm_parts.specs.declared.tracked_call.TrackedCall.{TrackedCall}
-use Rattle.vm_parts.specs.Counting.{missing_number, missing_signals, most, missing_indexes}
+use Rattle.vm_state.specs.declared.counters.Counters.{Counters}
+use Rattle.vm_state.specs.declared.tracked_call.TrackedCall.{TrackedCall}
+use Rattle.vm_state.specs.Counting.{missing_number, missing_signals, most, missing_indexes}
 use Rattle.vm_parts.specs.Deliveries.{id_at, newest, newest_after, present_result, present_result_for, same_id, unmapped}
-use Rattle.vm_parts.specs.Tracked.{by_known_id, id_of_result, if_unresolved, invocation_ids, is_tracked, id_noted, unresolved_handles, with_call, with_invocation_id, with_next_id, without_first_call}
+use Rattle.vm_state.specs.TrackedCalls.{with_call}
+use Rattle.vm_parts.specs.Tracked.{by_known_id, id_of_result, if_unresolved, invocation_ids, is_tracked, id_noted, unresolved_handles, with_invocation_id, with_next_id, without_first_call}
 use Rattle.vm_asks.specs.declared.asks.AnswerKind.{AnswerKind}
 use Rattle.vm_asks.specs.declared.asks.Ask.{Ask}
 use Rattle.vm_asks.specs.declared.asks.Ask.TheVariants as ask

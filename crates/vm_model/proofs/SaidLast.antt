@@ -4,13 +4,13 @@ use Rattle.std.specs.List.Sorted.{IsStrictlySortedBy}
 use Rattle.std.proofs.lemmas.Option.{same_Some}
 use Rattle.journal_protocol.specs.Message.{Message}
 use Rattle.journal_protocol.specs.Message.TheVariants as message
-use Rattle.vm_parts.specs.declared.context.StateCoverage.{StateCoverage}
-use Rattle.vm_parts.specs.declared.context.StateCoverage.TheVariants.{Partial, Complete}
-use Rattle.vm_parts.specs.declared.context.StateMap.{StateMap}
-use Rattle.vm_parts.specs.Entries.{IsInOrder, by_bytes, entry_of, is_key_among, keys_with_value}
-use Rattle.vm_parts.specs.States.{has_value, keys_by, value_known, known_by, known_keys}
-use Rattle.vm_parts.proofs.Changes.{known_besides_cleared, known_besides_set, known_cleared, known_set}
-use Rattle.vm_parts.proofs.Keys.{key_listed, keys_in_order}
+use Rattle.vm_state.specs.declared.state_map.StateCoverage.{StateCoverage}
+use Rattle.vm_state.specs.declared.state_map.StateCoverage.TheVariants.{Partial, Complete}
+use Rattle.vm_state.specs.declared.state_map.StateMap.{StateMap}
+use Rattle.vm_state.specs.Entries.{IsInOrder, by_bytes, entry_of, is_key_among, keys_with_value}
+use Rattle.vm_state.specs.States.{has_value, keys_by, value_known, known_by, known_keys}
+use Rattle.vm_state.proofs.Changes.{known_besides_cleared, known_besides_set, known_cleared, known_set}
+use Rattle.vm_state.proofs.Keys.{key_listed, keys_in_order}
 use Rattle.vm_asks.specs.Requests.{changed}
 use Rattle.vm_model.specs.Moves.{changed_by}
 use Rattle.vm_model.specs.SaidState.{AreKeysOf, IsLast, NoneTouches, Touches, clears_all, one_clears_all, says}

@@ -7,8 +7,8 @@ use Rattle.std.proofs.lemmas.List.{take-append-drop}
 use Rattle.journal_protocol.specs.InputCommand.{InputCommand}
 use Rattle.journal_protocol.specs.RawMessage.{RawMessage}
 use Rattle.journal_protocol.specs.Notification.{Notification}
-use Rattle.vm_parts.specs.declared.context.StateMap.{StateMap}
-use Rattle.vm_parts.specs.Entries.{IsInOrder}
+use Rattle.vm_state.specs.declared.state_map.StateMap.{StateMap}
+use Rattle.vm_state.specs.Entries.{IsInOrder}
 use Rattle.vm_model.specs.Calls.{Setup, Meaning, Move}
 use Rattle.vm_model.specs.Calls.Move.{Answers, Needs, Awaits, Ends, Refuses}
 use Rattle.journal_entries.specs.Journal.{Entry, commands_in, notifications_in, input_read_from, messages_in}

@@ -17,10 +17,11 @@ use Rattle.vm_types.specs.declared.values.Value.{Value}
 use Rattle.await_trees.specs.declared.handle.NotificationHandle.{NotificationHandle}
 use Rattle.await_trees.specs.declared.tree.UnresolvedFuture.{UnresolvedFuture}
 use Rattle.vm_parts.specs.declared.async_results.Mapping.{Mapping}
-use Rattle.vm_parts.specs.declared.tracked_call.TrackedCall.{TrackedCall}
-use Rattle.vm_parts.specs.Counting.{missing_number, missing_signals}
+use Rattle.vm_state.specs.declared.tracked_call.TrackedCall.{TrackedCall}
+use Rattle.vm_state.specs.Counting.{missing_number, missing_signals}
 use Rattle.vm_parts.specs.Deliveries.{id_at, present_result_for, unmapped}
-use Rattle.vm_parts.specs.Tracked.{TrackedAbove, TrackedAscend, by_known_id, id_of_result, invocation_ids, is_tracked, id_noted, unresolved_handles, unresolved_call, with_call, with_invocation_id, with_next_id, without_first_call}
+use Rattle.vm_state.specs.TrackedCalls.{unresolved_call, with_call}
+use Rattle.vm_parts.specs.Tracked.{TrackedAbove, TrackedAscend, by_known_id, id_of_result, invocation_ids, is_tracked, id_noted, unresolved_handles, with_invocation_id, with_next_id, without_first_call}
 use Rattle.vm_types.specs.Values.{id_of_value, value_of}
 use Rattle.vm_asks.specs.declared.asks.Ask.{Ask}
 use Rattle.vm_asks.specs.declared.asks.Ask.TheVariants as ask

@@ -9,14 +9,14 @@ use Rattle.std.specs.List.Sorted.{IsStrictlySortedBy}
 use Rattle.std.specs.Ordering.{is_eq, ordering_reverse}
 use Rattle.journal_protocol.specs.Message.{Message}
 use Rattle.journal_protocol.specs.Message.TheVariants as message
-use Rattle.vm_parts.specs.declared.context.Known.TheVariants.{Unknown, Empty, Value}
-use Rattle.vm_parts.specs.declared.context.StateCoverage.{StateCoverage}
-use Rattle.vm_parts.specs.declared.context.StateCoverage.TheVariants.{Partial, Complete}
-use Rattle.vm_parts.specs.declared.context.StateMap.{StateMap}
-use Rattle.vm_parts.specs.Entries.{IsInOrder, by_bytes, entry_of, is_key_among, keys_with_value}
-use Rattle.vm_parts.specs.States.{has_value, keys_by, value_known, known_by, known_keys}
-use Rattle.vm_parts.proofs.Changes.{key_at, known_besides_cleared, known_besides_set, known_cleared, known_set, stays_in_order}
-use Rattle.vm_parts.proofs.Keys.{key_listed, keys_in_order}
+use Rattle.vm_state.specs.declared.state_map.Known.TheVariants.{Unknown, Empty, Value}
+use Rattle.vm_state.specs.declared.state_map.StateCoverage.{StateCoverage}
+use Rattle.vm_state.specs.declared.state_map.StateCoverage.TheVariants.{Partial, Complete}
+use Rattle.vm_state.specs.declared.state_map.StateMap.{StateMap}
+use Rattle.vm_state.specs.Entries.{IsInOrder, by_bytes, entry_of, is_key_among, keys_with_value}
+use Rattle.vm_state.specs.States.{has_value, keys_by, value_known, known_by, known_keys}
+use Rattle.vm_state.proofs.Changes.{key_at, known_besides_cleared, known_besides_set, known_cleared, known_set, stays_in_order}
+use Rattle.vm_state.proofs.Keys.{key_listed, keys_in_order}
 use Rattle.vm_asks.specs.Requests.{changed}
 use Rattle.vm_model.specs.Histories.{IsAllOf, IsTrueOf}
 use Rattle.vm_model.specs.Moves.{changed_by}

@@ -18,10 +18,10 @@ use Rattle.journal_protocol.specs.Frames.{body, type_of, IsWhole}
 use Rattle.journal_protocol.specs.Bodies.{message_in}
 use Rattle.journal_protocol.specs.Types.{type_number}
 use Rattle.journal_protocol.proofs.Facts.{read_back, result_said, type_read, value_said}
-use Rattle.vm_parts.specs.declared.context.Known.{Known}
-use Rattle.vm_parts.specs.declared.context.Known.TheVariants.{Unknown, Empty, Value}
-use Rattle.vm_parts.specs.declared.context.StateMap.{StateMap}
-use Rattle.vm_parts.specs.States.{value_known, known_keys, state_set}
+use Rattle.vm_state.specs.declared.state_map.Known.{Known}
+use Rattle.vm_state.specs.declared.state_map.Known.TheVariants.{Unknown, Empty, Value}
+use Rattle.vm_state.specs.declared.state_map.StateMap.{StateMap}
+use Rattle.vm_state.specs.States.{value_known, known_keys, state_set}
 use Rattle.vm_asks.specs.declared.state_read.StateRead.{StateRead}
 use Rattle.vm_asks.specs.declared.state_read.StateRead.TheVariants as reads
 use Rattle.vm_asks.specs.StateReads.{eager_form, keys_form, own_form, read_by, result_in, value_form}

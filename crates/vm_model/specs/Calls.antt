@@ -11,7 +11,7 @@ use Rattle.journal_protocol.specs.NotificationResult.{NotificationResult}
 use Rattle.journal_protocol.specs.Version.{Version}
 use Rattle.std.specs.Option.{option_or}
 use Rattle.vm_parts.specs.declared.async_results.Mapping.{Mapping}
-use Rattle.vm_parts.specs.declared.context.Counters.{Counters}
+use Rattle.vm_state.specs.declared.counters.Counters.{Counters}
 use Rattle.vm_parts.specs.declared.context.StartInfo.{StartInfo}
 use Rattle.journal_protocol.specs.SignalDelivery.{SignalDelivery}
 use Rattle.vm_types.specs.declared.options.VMOptions.{VMOptions}
@@ -26,9 +26,9 @@ use Rattle.await_trees.specs.Tree.{Tree, tree_of}
 use Rattle.await_tries.specs.Leaves.{result_outcome}
 use Rattle.vm_types.specs.declared.values.Value.{Value}
 use Rattle.vm_parts.specs.Arrived.{Ready}
-use Rattle.vm_parts.specs.Counting.{missing_number, missing_signals, next_index, given_on}
+use Rattle.vm_state.specs.Counting.{missing_number, missing_signals, next_index, given_on}
 use Rattle.vm_parts.specs.Deliveries.{has_result_for, id_at, left_ready, none_ready, present_result_for, unmapped, with_delivered, with_eager}
-use Rattle.vm_parts.specs.declared.tracked_call.TrackedCall.{TrackedCall}
+use Rattle.vm_state.specs.declared.tracked_call.TrackedCall.{TrackedCall}
 use Rattle.vm_types.specs.Options.{ends_awaits, ignores_payloads, skips_replay}
 use Rattle.vm_parts.specs.Tracked.{id_of_result, invocation_ids, id_noted, unresolved_handles, with_next_id, without_first_call}
 use Rattle.vm_types.specs.Values.{id_of_value, value_of}

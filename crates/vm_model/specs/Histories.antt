@@ -8,13 +8,13 @@ use Rattle.journal_protocol.specs.Notification.{Notification}
 use Rattle.journal_protocol.specs.VoidOrValue.{VoidOrValue}
 use Rattle.journal_protocol.specs.VoidOrValue.TheVariants as stands
 use Rattle.journal_protocol.specs.Bodies.{message_in}
-use Rattle.vm_parts.specs.declared.context.Known.{Known}
-use Rattle.vm_parts.specs.declared.context.Known.TheVariants.{Unknown, Empty, Value}
-use Rattle.vm_parts.specs.declared.context.StateMap.{StateMap}
+use Rattle.vm_state.specs.declared.state_map.Known.{Known}
+use Rattle.vm_state.specs.declared.state_map.Known.TheVariants.{Unknown, Empty, Value}
+use Rattle.vm_state.specs.declared.state_map.StateMap.{StateMap}
 use Rattle.vm_types.specs.declared.steps.Step.TheVariants as step
 use Rattle.await_trees.specs.declared.tree.UnresolvedFuture.{UnresolvedFuture}
-use Rattle.vm_parts.specs.Entries.{IsInOrder}
-use Rattle.vm_parts.specs.States.{value_known, known_keys}
+use Rattle.vm_state.specs.Entries.{IsInOrder}
+use Rattle.vm_state.specs.States.{value_known, known_keys}
 use Rattle.vm_asks.specs.declared.state_read.StateRead.TheVariants as reads
 use Rattle.vm_asks.specs.StateReads.{own_form}
 use Rattle.vm_model.specs.Calls.{Setup, Meaning, Derived, is_awake, is_cancelled_in}

@@ -12,11 +12,11 @@ use Rattle.journal_protocol.specs.Equality.{header_equal}
 use Rattle.journal_protocol.specs.Frames.{type_of}
 use Rattle.journal_protocol.specs.Bodies.{message_in}
 use Rattle.journal_protocol.specs.Types.{type_number}
-use Rattle.vm_parts.specs.declared.context.StateMap.{StateMap}
+use Rattle.vm_state.specs.declared.state_map.StateMap.{StateMap}
 use Rattle.vm_types.specs.declared.steps.Answer.{Answer}
 use Rattle.vm_types.specs.declared.steps.Answer.TheVariants as answer
 use Rattle.vm_types.specs.declared.values.Input.{Input}
-use Rattle.vm_parts.specs.Counting.{fresh_counters}
+use Rattle.vm_state.specs.Counting.{fresh_counters}
 use Rattle.vm_parts.specs.Deliveries.{no_results}
 use Rattle.vm_asks.specs.StateReads.{lazy_form, own_form, recorded_as}
 use Rattle.vm_asks.specs.Requests.{changed}

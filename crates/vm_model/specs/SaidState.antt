@@ -5,11 +5,11 @@ use Rattle.std.specs.List.{AllByRecursion, list_any}
 use Rattle.std.specs.List.Sorted.{IsStrictlySortedBy}
 use Rattle.journal_protocol.specs.Message.{Message}
 use Rattle.journal_protocol.specs.Message.TheVariants as message
-use Rattle.vm_parts.specs.declared.context.Known.{Known}
-use Rattle.vm_parts.specs.declared.context.Known.TheVariants.{Empty, Value}
-use Rattle.vm_parts.specs.declared.context.StateMap.{StateMap}
-use Rattle.vm_parts.specs.Entries.{by_bytes, is_key_among}
-use Rattle.vm_parts.specs.States.{has_value, value_known}
+use Rattle.vm_state.specs.declared.state_map.Known.{Known}
+use Rattle.vm_state.specs.declared.state_map.Known.TheVariants.{Empty, Value}
+use Rattle.vm_state.specs.declared.state_map.StateMap.{StateMap}
+use Rattle.vm_state.specs.Entries.{by_bytes, is_key_among}
+use Rattle.vm_state.specs.States.{has_value, value_known}
 
 -- a command touches a key: it sets or clears this key, or it clears all keys
 abbrev pub Touches : List ℕ → Message → Type 0

@@ -1,6 +1,6 @@
 -- Histories by whose recorded commands the state is known as the handler knows it.
 use Rattle.std.specs.Prelude.{◌≡◌, List}
-use Rattle.vm_parts.specs.declared.context.StateMap.{StateMap}
+use Rattle.vm_state.specs.declared.state_map.StateMap.{StateMap}
 use Rattle.vm_model.specs.Calls.{Setup, Meaning}
 use Rattle.journal_entries.specs.Journal.{Entry, messages_in}
 use Rattle.vm_model.specs.Moves.{changed_by}

@@ -2,7 +2,7 @@
 ghost use Rattle.std.specs.Prelude.{◌≡◌, ◌++◌, List, []};
 ghost use Rattle.journal_protocol.specs.RawMessage.{RawMessage};
 ghost use Rattle.journal_protocol.specs.Notification.{Notification};
-ghost use Rattle.vm_parts.specs.declared.context.StateMap.{StateMap};
+ghost use Rattle.vm_state.specs.declared.state_map.StateMap.{StateMap};
 ghost use Rattle.vm_model.specs.Calls.{Setup, Meaning};
 ghost use Rattle.journal_entries.specs.Journal.{Entry, commands_in, notifications_in};
 ghost use Rattle.vm_model.specs.Histories.{Honest, IsPrefix, Undisturbed, Whole};

@@ -3,8 +3,8 @@ ghost use Rattle.std.specs.Prelude.{◌≡◌, ◌∷◌, ◌++◌, List, length
 ghost use Rattle.journal_protocol.specs.InputCommand.{InputCommand};
 ghost use Rattle.journal_protocol.specs.RawMessage.{RawMessage};
 ghost use Rattle.journal_protocol.specs.Notification.{Notification};
-ghost use Rattle.vm_parts.specs.declared.context.StateMap.{StateMap};
-ghost use Rattle.vm_parts.specs.Entries.{IsInOrder};
+ghost use Rattle.vm_state.specs.declared.state_map.StateMap.{StateMap};
+ghost use Rattle.vm_state.specs.Entries.{IsInOrder};
 ghost use Rattle.vm_model.specs.Calls.{Setup, Meaning};
 ghost use Rattle.journal_entries.specs.Journal.{Entry, Recorded, commands_in, notifications_in};
 ghost use Rattle.vm_model.specs.Moves.{Point};

@@ -8,7 +8,7 @@ ghost use Rattle.journal_protocol.specs.RawMessage.{RawMessage};
 ghost use Rattle.journal_protocol.specs.Notification.{Notification};
 ghost use Rattle.journal_protocol.specs.NotificationId.{NotificationId};
 ghost use Rattle.journal_protocol.specs.NotificationId.TheVariants.{CompletionId, SignalId};
-ghost use Rattle.vm_parts.specs.declared.context.StateMap.{StateMap};
+ghost use Rattle.vm_state.specs.declared.state_map.StateMap.{StateMap};
 ghost use Rattle.vm_parts.specs.Deliveries.{id_at};
 ghost use Rattle.vm_model.specs.Calls.{Setup, Meaning};
 ghost use Rattle.vm_model.specs.Calls.Move.{Refuses};

@@ -7,10 +7,10 @@ ghost use Rattle.journal_protocol.specs.GetEagerStateKeysCommand.{GetEagerStateK
 ghost use Rattle.journal_protocol.specs.Bodies.{message_in};
 ghost use Rattle.journal_protocol.specs.Frames.{IsWhole};
 ghost use Rattle.journal_protocol.specs.Message.{Message};
-ghost use Rattle.vm_parts.specs.declared.context.StateMap.{StateMap};
-ghost use Rattle.vm_parts.specs.declared.context.Known.TheVariants.{Unknown};
-ghost use Rattle.vm_parts.specs.Entries.{IsInOrder};
-ghost use Rattle.vm_parts.specs.States.{value_known, known_keys};
+ghost use Rattle.vm_state.specs.declared.state_map.StateMap.{StateMap};
+ghost use Rattle.vm_state.specs.declared.state_map.Known.TheVariants.{Unknown};
+ghost use Rattle.vm_state.specs.Entries.{IsInOrder};
+ghost use Rattle.vm_state.specs.States.{value_known, known_keys};
 ghost use Rattle.vm_asks.specs.declared.state_read.StateRead.TheVariants as reads;
 ghost use Rattle.vm_asks.specs.StateReads.{own_form};
 ghost use Rattle.vm_model.specs.Calls.{Setup, Meaning};

@@ -1,9 +1,9 @@
 //! Laws of the state that commands leave.
 ghost use Rattle.std.specs.Prelude.{◌≡◌, ◌||◌, List, ℕ, Some, is_some};
 ghost use Rattle.journal_protocol.specs.Message.{Message};
-ghost use Rattle.vm_parts.specs.declared.context.StateMap.{StateMap};
-ghost use Rattle.vm_parts.specs.Entries.{IsInOrder};
-ghost use Rattle.vm_parts.specs.States.{value_known, known_keys};
+ghost use Rattle.vm_state.specs.declared.state_map.StateMap.{StateMap};
+ghost use Rattle.vm_state.specs.Entries.{IsInOrder};
+ghost use Rattle.vm_state.specs.States.{value_known, known_keys};
 ghost use Rattle.vm_model.specs.Moves.{changed_by};
 ghost use Rattle.vm_model.specs.SaidState.{AreKeysOf, IsLast, NoneTouches, one_clears_all, says};
 

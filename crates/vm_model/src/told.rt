@@ -4,7 +4,7 @@ ghost use Rattle.journal_protocol.specs.InputCommand.{InputCommand};
 ghost use Rattle.journal_protocol.specs.RawMessage.{RawMessage};
 ghost use Rattle.journal_protocol.specs.Notification.{Notification};
 ghost use Rattle.journal_protocol.specs.NamedFault.{NamedFault};
-ghost use Rattle.vm_parts.specs.declared.context.StateMap.{StateMap};
+ghost use Rattle.vm_state.specs.declared.state_map.StateMap.{StateMap};
 ghost use Rattle.journal_protocol.specs.Message.{Message};
 ghost use Rattle.journal_protocol.specs.Frames.{IsWhole};
 ghost use Rattle.vm_asks.specs.declared.state_read.StateRead.{StateRead};

@@ -14,8 +14,9 @@ use Rattle.std.proofs.lemmas.List.{get_or_default, length-set, take-append-drop,
 use Rattle.std.proofs.lemmas.List.Edits.{length-insert}
 use Rattle.std.proofs.Math.Bool.{or-true}
 use Rattle.std.proofs.lemmas.List.Sorted.{searchable_from_sorted}
-use Rattle.vm_parts.specs.declared.tracked_call.TrackedCall.{TrackedCall}
-use Rattle.vm_parts.specs.Tracked.{TrackedAbove, TrackedAscend, IsTrackedAt, IsBetween, IsNextUnresolved, IsTracking, by_known_id, if_known, if_unresolved, invocation_ids, is_tracked, id_noted, unresolved_handles, unresolved_call, with_call, with_invocation_id, with_next_id}
+use Rattle.vm_state.specs.declared.tracked_call.TrackedCall.{TrackedCall}
+use Rattle.vm_state.specs.TrackedCalls.{unresolved_call, with_call}
+use Rattle.vm_parts.specs.Tracked.{TrackedAbove, TrackedAscend, IsTrackedAt, IsBetween, IsNextUnresolved, IsTracking, by_known_id, if_known, if_unresolved, invocation_ids, is_tracked, id_noted, unresolved_handles, with_invocation_id, with_next_id}
 use Rattle.plain.proofs.Places.{from_place}
 
 -- ---- found by halving

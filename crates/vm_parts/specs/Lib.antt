@@ -1,11 +1,7 @@
 pub mod Arrived
-pub mod Counting
 pub mod Deliveries
-pub mod Entries
 pub mod Ephemerals
 pub mod Mappings
 pub mod Outboxes
-pub mod StateKeys
-pub mod States
 pub mod Tracked
 pub mod Starts

@@ -1,23 +1,11 @@
 -- Calls whose invocations are cancelled with the handler's: one a handle of an invocation's id, in
 -- the order of these handles, which is that of the calls. The id is known once its result was read.
-use Rattle.std.specs.Prelude.{ℕ, ◌≡◌, ◌<◌, ◌≤◌, Bool, true, false, ◌||◌, ◌==◌, nat_lt, if◌then◌else◌, List, [], ◌∷◌, length, take, slice_index_or, Option, Some, None}
+use Rattle.std.specs.Prelude.{ℕ, ◌≡◌, ◌<◌, ◌≤◌, Bool, true, false, ◌||◌, ◌==◌, if◌then◌else◌, List, [], ◌∷◌, length, take, slice_index_or, Option, Some, None}
 use Rattle.std.specs.List.Sorted.{IsPartitionPoint}
 use Rattle.std.specs.Option.{option_map}
 use Rattle.journal_values.specs.declared.notification.NotificationResult.{NotificationResult}
 use Rattle.journal_values.specs.declared.notification.NotificationResult.TheVariants as result
-use Rattle.vm_parts.specs.declared.tracked_call.TrackedCall.{TrackedCall}
-
--- a call whose invocation's id isn't known
-abbrev pub unresolved_call : ℕ → TrackedCall
-unresolved_call handle = record { handle = handle; invocation_id = None }
-
--- one more call is tracked
-abbrev pub with_call : ℕ → List TrackedCall → List TrackedCall
-with_call handle [] = unresolved_call handle ∷ []
-with_call handle (t ∷ ts) =
-    if nat_lt handle t.handle then unresolved_call handle ∷ t ∷ ts
-    else if handle == t.handle then unresolved_call handle ∷ ts
-    else t ∷ with_call handle ts
+use Rattle.vm_state.specs.declared.tracked_call.TrackedCall.{TrackedCall}
 
 -- the call of this handle is tracked
 abbrev pub is_tracked : ℕ → List TrackedCall → Bool

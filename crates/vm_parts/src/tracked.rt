@@ -1,13 +1,14 @@
 //! Calls whose invocations are cancelled with the handler's, by the handles of their invocations' ids.
 ghost use Rattle.std.specs.Prelude.{◌≡◌, ◌≤◌, [], IfOk, OnOk, OnErr, MatchOption, MatchResult, length, take};
 ghost use Rattle.std.specs.Option.{option_copied};
-ghost use Rattle.vm_parts.specs.Tracked.{unresolved_handles, with_call, with_next_id, NotesId, IsFirstHandle, TrackedAscend, IsTrackedAt, IsBetween, IsNextUnresolved};
+ghost use Rattle.vm_state.specs.TrackedCalls.{with_call};
+ghost use Rattle.vm_parts.specs.Tracked.{unresolved_handles, with_next_id, NotesId, IsFirstHandle, TrackedAscend, IsTrackedAt, IsBetween, IsNextUnresolved};
 
-use crate::tracked_call::TrackedCall;
 use plain::{Text, copy_of};
 use std::alloc::{AllocError, Global};
 use std::marker::Model;
 use std::mem;
+use vm_state::TrackedCall;
 
 /// Tracked calls, in the order of their handles; one is found by halving. The ids of the first ones are known, which are not looked at
 /// again for one that isn't.
@@ -19,7 +20,7 @@ pub struct TrackedCalls {
 
 impl Model for TrackedCalls {
     ghost use Rattle.std.specs.Prelude.{List};
-    ghost use Rattle.vm_parts.specs.declared.tracked_call.TrackedCall.{TrackedCall};
+    ghost use Rattle.vm_state.specs.declared.tracked_call.TrackedCall.{TrackedCall};
     ghost use Rattle.vm_parts.specs.Tracked.{IsTracking};
 
     ghost Value = { List TrackedCall };

@@ -21,10 +21,10 @@ use Rattle.vm_types.specs.declared.steps.Answer.TheVariants as answer
 use Rattle.vm_types.specs.declared.values.Value.{Value}
 use Rattle.vm_types.specs.Options.{skips_replay}
 use Rattle.vm_types.specs.Values.{id_of_value, value_of}
-use Rattle.vm_parts.specs.declared.context.StateMap.{StateMap}
-use Rattle.vm_parts.specs.declared.tracked_call.TrackedCall.{TrackedCall}
+use Rattle.vm_state.specs.declared.state_map.StateMap.{StateMap}
+use Rattle.vm_state.specs.declared.tracked_call.TrackedCall.{TrackedCall}
 use Rattle.vm_parts.specs.Arrived.{Ready}
-use Rattle.vm_parts.specs.Counting.{missing_number, missing_signals}
+use Rattle.vm_state.specs.Counting.{missing_number, missing_signals}
 use Rattle.vm_parts.specs.Deliveries.{id_at, is_listed, left_among, present_among, present_result_for, same_id}
 use Rattle.vm_parts.specs.Tracked.{id_noted, id_of_result, invocation_ids, unresolved_handles}
 use Rattle.vm_asks.specs.declared.asks.Ask.{Ask}

@@ -6,7 +6,7 @@ use Rattle.journal_protocol.specs.Errors.{no_memory}
 use Rattle.journal_protocol.specs.RawMessage.{RawMessage}
 use Rattle.await_trees.specs.declared.tree.UnresolvedFuture.{UnresolvedFuture}
 use Rattle.journal_entries.specs.JournalFrames.{as_entries}
-use Rattle.vm_parts.specs.declared.context.StateMap.{StateMap}
+use Rattle.vm_state.specs.declared.state_map.StateMap.{StateMap}
 use Rattle.vm_types.specs.declared.types.State.TheVariants as state
 use Rattle.vm_machine.specs.declared.machine.Machine.{Machine}
 use Rattle.vm_machine.specs.declared.phase.Phase.{Phase}

@@ -1,8 +1,8 @@
 -- Rounds of a family keep a sound history, and one run; and a replay check proves one.
 use Rattle.std.proofs.Common.{◌≡◌, List, [], ◌∷◌, sym, subst}
 use Rattle.journal_entries.specs.Journal.{Entry, notifications_in}
-use Rattle.vm_parts.specs.declared.context.StateMap.{StateMap}
-use Rattle.vm_parts.specs.Entries.{IsInOrder}
+use Rattle.vm_state.specs.declared.state_map.StateMap.{StateMap}
+use Rattle.vm_state.specs.Entries.{IsInOrder}
 use Rattle.vm_model.specs.Alike.{AlikeHandlers, IsOneRunAlike}
 use Rattle.vm_model.specs.Calls.{Meaning, Setup}
 use Rattle.vm_model.specs.Histories.{EagerFrom, History, Honest, Knowledge, Whole}

@@ -28,7 +28,7 @@ use Rattle.vm_types.specs.declared.steps.Answer.{Answer}
 use Rattle.vm_types.specs.declared.steps.Answer.TheVariants as answer
 use Rattle.vm_types.specs.declared.steps.Step.TheVariants as step
 use Rattle.vm_types.specs.Options.{ends_awaits}
-use Rattle.vm_parts.specs.Counting.{missing_number}
+use Rattle.vm_state.specs.Counting.{missing_number}
 use Rattle.vm_parts.specs.Tracked.{id_of_result, invocation_ids, unresolved_handles}
 use Rattle.vm_awaits.specs.Awaits.{or_cancelled}
 use Rattle.vm_model.specs.Calls.{Derived, Meaning, Setup, awaited, awaiting, call_of, cancel_sent, cancelled, cancelling, id_awaited, id_read, is_awake, is_cancelled_in, leaf_in, tree_wakes}

@@ -6,7 +6,7 @@ use Rattle.journal_protocol.specs.Errors.{no_memory}
 use Rattle.journal_protocol.specs.RawMessage.{RawMessage}
 use Rattle.await_trees.specs.declared.tree.UnresolvedFuture.{UnresolvedFuture}
 use Rattle.vm_types.specs.declared.steps.Answer.{Answer}
-use Rattle.vm_parts.specs.declared.context.StateMap.{StateMap}
+use Rattle.vm_state.specs.declared.state_map.StateMap.{StateMap}
 use Rattle.vm_machine.specs.declared.machine.Machine.{Machine}
 use Rattle.vm_machine.specs.Commands.{phase_after}
 use Rattle.vm_machine.specs.Phases.{is_running}

@@ -21,11 +21,12 @@ use Rattle.vm_types.specs.declared.steps.Step.TheVariants as step
 use Rattle.vm_types.specs.declared.values.Value.{Value}
 use Rattle.vm_types.specs.Options.{skips_replay}
 use Rattle.vm_types.specs.Values.{id_of_value, value_of}
-use Rattle.vm_parts.specs.declared.context.StateMap.{StateMap}
-use Rattle.vm_parts.specs.declared.tracked_call.TrackedCall.{TrackedCall}
-use Rattle.vm_parts.specs.Counting.{missing_number, missing_signals}
+use Rattle.vm_state.specs.declared.state_map.StateMap.{StateMap}
+use Rattle.vm_state.specs.declared.tracked_call.TrackedCall.{TrackedCall}
+use Rattle.vm_state.specs.Counting.{missing_number, missing_signals}
 use Rattle.vm_parts.specs.Deliveries.{id_at, present_result_for}
-use Rattle.vm_parts.specs.Tracked.{by_known_id, id_noted, id_of_result, invocation_ids, is_tracked, unresolved_call, unresolved_handles, with_call, with_invocation_id, with_next_id, without_first_call}
+use Rattle.vm_state.specs.TrackedCalls.{unresolved_call, with_call}
+use Rattle.vm_parts.specs.Tracked.{by_known_id, id_noted, id_of_result, invocation_ids, is_tracked, unresolved_handles, with_invocation_id, with_next_id, without_first_call}
 use Rattle.vm_asks.specs.declared.asks.Ask.{Ask}
 use Rattle.vm_asks.specs.declared.asks.Ask.TheVariants as ask
 use Rattle.vm_asks.specs.declared.asks.AnswerKind.{AnswerKind}

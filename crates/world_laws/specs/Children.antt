@@ -2,7 +2,7 @@
 -- run sends the cancel signal.
 use Rattle.std.specs.Prelude.{◌≡◌, ℕ, zero, suc, ◌≤◌, Bool, true, false, List, [], ◌∷◌, ◌++◌, drop, length, Option, Some, None, Ok}
 use Rattle.journal_protocol.specs.RawMessage.{RawMessage}
-use Rattle.vm_parts.specs.declared.tracked_call.TrackedCall.{TrackedCall}
+use Rattle.vm_state.specs.declared.tracked_call.TrackedCall.{TrackedCall}
 use Rattle.vm_parts.specs.Tracked.{unresolved_handles}
 use Rattle.vm_types.specs.Options.{ignores_payloads}
 use Rattle.vm_asks.specs.declared.asks.Ask.{Ask}

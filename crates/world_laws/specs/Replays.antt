@@ -8,7 +8,7 @@ use Rattle.journal_protocol.specs.Frames.{encoding, IsWhole}
 use Rattle.journal_protocol.specs.Version.{Version}
 use Rattle.journal_entries.specs.Entries.{journal_entries}
 use Rattle.journal_entries.specs.JournalFrames.{as_entries}
-use Rattle.vm_parts.specs.declared.context.StateMap.{StateMap}
+use Rattle.vm_state.specs.declared.state_map.StateMap.{StateMap}
 use Rattle.vm_types.specs.declared.types.State.{State}
 use Rattle.vm_types.specs.declared.types.State.TheVariants as state
 use Rattle.vm_machine.specs.Queries.{state_of}

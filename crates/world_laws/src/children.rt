@@ -4,7 +4,7 @@ ghost use Rattle.journal_protocol.specs.InputCommand.{InputCommand};
 ghost use Rattle.journal_protocol.specs.RawMessage.{RawMessage};
 ghost use Rattle.journal_protocol.specs.Notification.{Notification};
 ghost use Rattle.journal_entries.specs.Journal.{Entry, notifications_in};
-ghost use Rattle.vm_parts.specs.declared.context.StateMap.{StateMap};
+ghost use Rattle.vm_state.specs.declared.state_map.StateMap.{StateMap};
 ghost use Rattle.vm_model.specs.Calls.{Meaning, Setup};
 ghost use Rattle.vm_model.specs.Histories.{History};
 ghost use Rattle.vm_model.specs.Moves.{Point, after, start};

@@ -1,8 +1,8 @@
 //! The law of rounds of a family, whoever runs their attempts.
 ghost use Rattle.std.specs.Prelude.{List};
 ghost use Rattle.journal_entries.specs.Journal.{Entry};
-ghost use Rattle.vm_parts.specs.declared.context.StateMap.{StateMap};
-ghost use Rattle.vm_parts.specs.Entries.{IsInOrder};
+ghost use Rattle.vm_state.specs.declared.state_map.StateMap.{StateMap};
+ghost use Rattle.vm_state.specs.Entries.{IsInOrder};
 ghost use Rattle.vm_model.specs.Alike.{AlikeHandlers, IsOneRunAlike};
 ghost use Rattle.vm_model.specs.Calls.{Meaning, Setup};
 ghost use Rattle.vm_model.specs.Histories.{Honest, Whole};

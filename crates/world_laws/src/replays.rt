@@ -5,7 +5,7 @@ ghost use Rattle.journal_protocol.specs.Error.{Error};
 ghost use Rattle.journal_protocol.specs.Errors.{no_memory};
 ghost use Rattle.journal_entries.specs.Journal.{Entry, notifications_in};
 ghost use Rattle.vm_types.specs.declared.types.State.TheVariants as state;
-ghost use Rattle.vm_parts.specs.declared.context.StateMap.{StateMap};
+ghost use Rattle.vm_state.specs.declared.state_map.StateMap.{StateMap};
 ghost use Rattle.vm_machine.specs.Queries.{state_of};
 ghost use Rattle.invocation_vm.specs.Making.{made};
 ghost use Rattle.vm_model.specs.Calls.{Meaning, Setup};

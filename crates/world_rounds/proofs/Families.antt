@@ -10,8 +10,8 @@ use Rattle.vm_model.specs.HonestRounds.{Attempted, HonestRounds}
 use Rattle.journal_entries.specs.Journal.{Entry, commands_in}
 use Rattle.vm_model.proofs.Likeness.{alike_everywhere, finished_alike, handlers_along, handlers_back, history_alike, sound_alike, told_alike}
 use Rattle.vm_model.proofs.Mixed.{all_is_true, honest_enough, mixed_round, mixed_sound, mixed_whole_round}
-use Rattle.vm_parts.specs.declared.context.StateMap.{StateMap}
-use Rattle.vm_parts.specs.Entries.{IsInOrder}
+use Rattle.vm_state.specs.declared.state_map.StateMap.{StateMap}
+use Rattle.vm_state.specs.Entries.{IsInOrder}
 use Rattle.journal_entries.specs.Entries.{journal_entries}
 use Rattle.world_rounds.specs.States.{base_of}
 use Rattle.world_rounds.specs.Worlds.{IsJournal, setup_of}

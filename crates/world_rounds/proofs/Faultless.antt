@@ -14,7 +14,7 @@ use Rattle.journal_protocol.specs.NotificationId.TheVariants.{CompletionId}
 use Rattle.journal_entries.specs.Frames.{Tail, frames_of}
 use Rattle.invocation_vm.specs.Making.{made}
 use Rattle.vm_types.specs.declared.options.VMOptions.{VMOptions}
-use Rattle.vm_parts.specs.declared.context.StateMap.{StateMap}
+use Rattle.vm_state.specs.declared.state_map.StateMap.{StateMap}
 use Rattle.vm_parts.specs.Deliveries.{is_known}
 use Rattle.vm_parts.specs.Outboxes.{WholeFrames}
 use Rattle.journal_entries.specs.Carried.{all_carried}

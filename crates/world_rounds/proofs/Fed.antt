@@ -15,7 +15,7 @@ use Rattle.journal_protocol.specs.Bodies.{acknowledgement_in, notification_in, s
 use Rattle.journal_protocol.specs.Notification.{Notification}
 use Rattle.vm_runs.specs.Kept.{is_for}
 use Rattle.journal_entries.specs.Frames.{Garbage, frames_of}
-use Rattle.vm_parts.specs.declared.context.StateMap.{StateMap}
+use Rattle.vm_state.specs.declared.state_map.StateMap.{StateMap}
 use Rattle.journal_protocol.specs.ProposeRunCompletion.{ProposeRunCompletion}
 use Rattle.vm_machine.specs.declared.phase.Phase.{Phase}
 use Rattle.vm_machine.specs.declared.phase.Phase.TheVariants.{WaitingStart, WaitingReplayEntries, Replaying, Processing, Closed}

@@ -10,14 +10,14 @@ use Rattle.std.specs.Ordering.{is_eq}
 use Rattle.std.specs.Str.{is_utf8}
 use Rattle.journal_protocol.specs.Message.{Message}
 use Rattle.journal_protocol.specs.Message.TheVariants as message
-use Rattle.vm_parts.specs.declared.context.Known.{Known}
-use Rattle.vm_parts.specs.declared.context.Known.TheVariants.{Unknown, Empty, Value}
-use Rattle.vm_parts.specs.declared.context.StateCoverage.{StateCoverage}
-use Rattle.vm_parts.specs.declared.context.StateCoverage.TheVariants.{Partial, Complete}
-use Rattle.vm_parts.specs.declared.context.StateMap.{StateMap}
-use Rattle.vm_parts.specs.Entries.{IsInOrder, by_bytes, entries_of as state_entries, entry_of, with_entry}
-use Rattle.vm_parts.specs.States.{value_known, known_by}
-use Rattle.vm_parts.proofs.Changes.{key_at, known_besides_set, known_set, pairs_in_order}
+use Rattle.vm_state.specs.declared.state_map.Known.{Known}
+use Rattle.vm_state.specs.declared.state_map.Known.TheVariants.{Unknown, Empty, Value}
+use Rattle.vm_state.specs.declared.state_map.StateCoverage.{StateCoverage}
+use Rattle.vm_state.specs.declared.state_map.StateCoverage.TheVariants.{Partial, Complete}
+use Rattle.vm_state.specs.declared.state_map.StateMap.{StateMap}
+use Rattle.vm_state.specs.Entries.{IsInOrder, by_bytes, entries_of as state_entries, entry_of, with_entry}
+use Rattle.vm_state.specs.States.{value_known, known_by}
+use Rattle.vm_state.proofs.Changes.{key_at, known_besides_set, known_set, pairs_in_order}
 use Rattle.vm_machine.specs.Inputs.{coverage_of, entries_in}
 use Rattle.vm_asks.specs.Requests.{changed}
 use Rattle.vm_model.specs.Histories.{IsAllOf, IsTrueOf}

@@ -12,7 +12,7 @@ use Rattle.vm_model.specs.Histories.{Handed, History, IsPrefix, Made}
 use Rattle.vm_model.specs.HonestRounds.{Attempted, HonestRound, IsToldOn}
 use Rattle.journal_entries.specs.JournalFrames.{commands_among}
 use Rattle.vm_attempt.specs.Journals.{setup_for}
-use Rattle.vm_parts.specs.declared.context.StateMap.{StateMap}
+use Rattle.vm_state.specs.declared.state_map.StateMap.{StateMap}
 use Rattle.vm_attempt.specs.Told.{AnswersAreTold, IsKept, written_by}
 use Rattle.world_rounds.specs.declared.types.Setting.{Setting}
 use Rattle.world_rounds.specs.Courses.{delivered, start_handed}

@@ -11,8 +11,8 @@ use Rattle.journal_protocol.specs.Notification.{Notification}
 use Rattle.journal_entries.specs.Frames.{Garbage, Rest, Tail, frames_of, frames_joined}
 use Rattle.journal_entries.proofs.Cuts.{frames_of-append}
 use Rattle.journal_entries.specs.Carried.{all_carried}
-use Rattle.vm_parts.specs.declared.context.StateMap.{StateMap}
-use Rattle.vm_parts.specs.Entries.{entries_of as state_entries}
+use Rattle.vm_state.specs.declared.state_map.StateMap.{StateMap}
+use Rattle.vm_state.specs.Entries.{entries_of as state_entries}
 use Rattle.vm_machine.specs.Inputs.{entries_in}
 use Rattle.vm_model.specs.Calls.{Meaning, Setup}
 use Rattle.vm_model.specs.Carried.{AreCarried, AreOfTheirKind, is_for_invocation, names_invocation}

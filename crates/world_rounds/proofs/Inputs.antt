@@ -9,7 +9,7 @@ use Rattle.journal_protocol.specs.MessageType.TheVariants as type
 use Rattle.journal_protocol.specs.Bodies.{input_in, message_in}
 use Rattle.journal_protocol.specs.Types.{type_number}
 use Rattle.journal_protocol.proofs.Facts.{type_read}
-use Rattle.vm_parts.specs.declared.context.StateMap.{StateMap}
+use Rattle.vm_state.specs.declared.state_map.StateMap.{StateMap}
 use Rattle.vm_model.specs.Calls.{Meaning, Setup}
 use Rattle.journal_entries.specs.Journal.{Entry, commands_in, input_read_from, messages_in, read_before}
 use Rattle.vm_model.specs.Moves.{changed_by}

@@ -17,7 +17,7 @@ use Rattle.vm_model.specs.Calls.{Meaning, Setup}
 use Rattle.vm_model.specs.Histories.{History, Honest}
 use Rattle.journal_entries.specs.Journal.{stored_form}
 use Rattle.vm_model.specs.SoundHistories.{SoundHistory}
-use Rattle.vm_parts.specs.declared.context.StateMap.{StateMap}
+use Rattle.vm_state.specs.declared.state_map.StateMap.{StateMap}
 use Rattle.vm_attempt.specs.Blames.{Blame, IfError, IsBlamed, IsLate, IsOwnError}
 use Rattle.vm_attempt.specs.Journals.{setup_for}
 use Rattle.vm_attempt.proofs.Advanced.{made_new}

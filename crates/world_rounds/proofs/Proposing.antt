@@ -35,9 +35,9 @@ use Rattle.vm_runs.specs.Pending.{has_handle}
 use Rattle.vm_types.specs.declared.steps.Answer.{Answer}
 use Rattle.vm_types.specs.declared.steps.Answer.TheVariants as answer
 use Rattle.vm_types.specs.declared.values.Input.{Input}
-use Rattle.vm_parts.specs.declared.context.Counters.{Counters}
+use Rattle.vm_state.specs.declared.counters.Counters.{Counters}
 use Rattle.vm_runs.specs.declared.pending.PendingRun.{PendingRun}
-use Rattle.vm_parts.specs.Counting.{missing_number}
+use Rattle.vm_state.specs.Counting.{missing_number}
 use Rattle.vm_parts.specs.Deliveries.{id_at}
 use Rattle.vm_parts.specs.Outboxes.{WholeFrames}
 use Rattle.vm_parts.proofs.Outboxes.{all_whole, bytes_of}

@@ -12,8 +12,8 @@ use Rattle.journal_protocol.specs.Notification.{Notification}
 use Rattle.journal_protocol.specs.NotificationId.TheVariants.{CompletionId}
 use Rattle.journal_protocol.specs.NotificationResult.{NotificationResult}
 use Rattle.journal_entries.specs.Frames.{Tail, frames_of}
-use Rattle.vm_parts.specs.declared.context.StateMap.{StateMap}
-use Rattle.vm_parts.specs.Entries.{entries_of as state_entries}
+use Rattle.vm_state.specs.declared.state_map.StateMap.{StateMap}
+use Rattle.vm_state.specs.Entries.{entries_of as state_entries}
 use Rattle.vm_machine.specs.Inputs.{coverage_of}
 use Rattle.vm_model.specs.Calls.{Meaning, Setup}
 use Rattle.vm_model.specs.Carried.{AreCarried, ComeOnce}

@@ -32,8 +32,8 @@ use Rattle.vm_types.specs.declared.values.Value.{Value}
 use Rattle.vm_types.specs.Options.{ends_awaits, ignores_payloads, skips_replay}
 use Rattle.vm_types.specs.Values.{value_of, id_of_value}
 use Rattle.vm_runs.specs.declared.pending.PendingRun.{PendingRun}
-use Rattle.vm_parts.specs.declared.tracked_call.TrackedCall.{TrackedCall}
-use Rattle.vm_parts.specs.Counting.{missing_number, missing_signals, next_index}
+use Rattle.vm_state.specs.declared.tracked_call.TrackedCall.{TrackedCall}
+use Rattle.vm_state.specs.Counting.{missing_number, missing_signals, next_index}
 use Rattle.vm_parts.specs.Deliveries.{id_at, present_result_for, taken_by}
 use Rattle.vm_parts.specs.Ephemerals.{any_in_flight}
 use Rattle.vm_parts.specs.Tracked.{id_of_result, invocation_ids, id_noted, unresolved_handles}

@@ -2,7 +2,7 @@
 use Rattle.std.proofs.Common.{◌≡◌, ℕ, zero, suc, Bool, true, false, List, [], ◌∷◌, ◌++◌, Option, Some, None, refl, sym, ap, ◌∙◌}
 use Rattle.journal_protocol.specs.RawMessage.{RawMessage}
 use Rattle.journal_protocol.specs.Version.TheVariants as version
-use Rattle.vm_parts.specs.declared.context.StateMap.{StateMap}
+use Rattle.vm_state.specs.declared.state_map.StateMap.{StateMap}
 use Rattle.vm_types.specs.declared.steps.Step.{Step}
 use Rattle.vm_types.specs.declared.steps.Step.TheVariants as step
 use Rattle.vm_asks.specs.declared.asks.Ask.{Ask}
@@ -11,7 +11,7 @@ use Rattle.vm_asks.specs.declared.command.Command.{Command}
 use Rattle.vm_asks.specs.declared.asks.AnswerKind.{AnswerKind}
 use Rattle.vm_asks.specs.Asks.{ask_of}
 use Rattle.vm_asks.specs.Requests.{ids_of}
-use Rattle.vm_parts.specs.Counting.{missing_number, missing_signals}
+use Rattle.vm_state.specs.Counting.{missing_number, missing_signals}
 use Rattle.vm_parts.specs.Tracked.{invocation_ids, unresolved_handles}
 use Rattle.vm_types.specs.Options.{skips_replay}
 use Rattle.await_trees.specs.declared.tree.UnresolvedFuture.{UnresolvedFuture}

@@ -2,8 +2,8 @@
 ghost use Rattle.std.specs.Prelude.{◌≡◌, ◌∷◌, [], ◌≤◌, length, IfOk, OnOk};
 ghost use Rattle.journal_protocol.specs.Frames.{encoding, IsWhole};
 ghost use Rattle.journal_protocol.specs.Message.TheVariants as message;
-ghost use Rattle.vm_parts.specs.declared.context.StateCoverage.TheVariants.{Complete};
-ghost use Rattle.vm_parts.specs.Entries.{entries_of as state_entries};
+ghost use Rattle.vm_state.specs.declared.state_map.StateCoverage.TheVariants.{Complete};
+ghost use Rattle.vm_state.specs.Entries.{entries_of as state_entries};
 ghost use Rattle.vm_model.specs.Moves.{changed_by};
 ghost use Rattle.journal_entries.specs.Arrivals.{most_entries};
 ghost use Rattle.journal_entries.specs.Entries.{said_in};

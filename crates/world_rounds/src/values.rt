@@ -1,8 +1,8 @@
 //! `Values`: a state of which all is known, key by key.
 ghost use Rattle.std.specs.Prelude.{◌≡◌, [], true, IfOk, OnOk};
 ghost use Rattle.std.specs.Str.{is_utf8};
-ghost use Rattle.vm_parts.specs.declared.context.StateCoverage.TheVariants.{Complete};
-ghost use Rattle.vm_parts.specs.States.{state_set, state_cleared, all_cleared};
+ghost use Rattle.vm_state.specs.declared.state_map.StateCoverage.TheVariants.{Complete};
+ghost use Rattle.vm_state.specs.States.{state_set, state_cleared, all_cleared};
 ghost use Rattle.vm_asks.specs.Requests.{changed};
 ghost use Rattle.world_rounds.specs.States.{HaveTextKeys, is_asked, is_key_listed, pairs_in};
 
@@ -20,8 +20,8 @@ pub struct Values {
 }
 
 impl Model for Values {
-    ghost use Rattle.vm_parts.specs.declared.context.StateCoverage.TheVariants.{Complete};
-    ghost use Rattle.vm_parts.specs.declared.context.StateMap.{StateMap};
+    ghost use Rattle.vm_state.specs.declared.state_map.StateCoverage.TheVariants.{Complete};
+    ghost use Rattle.vm_state.specs.declared.state_map.StateMap.{StateMap};
 
     ghost Value = { StateMap };
 

@@ -1,6 +1,6 @@
 use Rattle.std.proofs.Common.{◌≡◌, take, drop}
 use Rattle.std.specs.List.{list_all}
-use Rattle.vm_parts.specs.Entries.{entries_of}
+use Rattle.vm_state.specs.Entries.{entries_of}
 use Rattle.vm_inputs.proofs.States.{key_is_text}
 use Rattle.vm_inputs.proofs.messages.read_state.Given as goal
 

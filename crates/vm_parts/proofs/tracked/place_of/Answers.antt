@@ -1,6 +1,6 @@
 use Rattle.std.proofs.Common.{◌≡◌, ◌-◌, suc, length, rules, arith}
 use Rattle.std.proofs.lemmas.List.Sorted.{answers_always}
-use Rattle.vm_parts.specs.declared.tracked_call.TrackedCall.{TrackedCall}
+use Rattle.vm_state.specs.declared.tracked_call.TrackedCall.{TrackedCall}
 use Rattle.vm_parts.proofs.Tracking.{behind_last, place_found}
 use Rattle.vm_parts.proofs.tracked.place_of.Goals as goal
 

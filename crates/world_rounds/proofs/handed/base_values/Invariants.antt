@@ -1,6 +1,6 @@
 use Rattle.std.proofs.Common.{◌≡◌, take}
-use Rattle.vm_parts.specs.declared.context.StateCoverage.TheVariants.{Complete}
-use Rattle.vm_parts.specs.Entries.{entries_of as state_entries}
+use Rattle.vm_state.specs.declared.state_map.StateCoverage.TheVariants.{Complete}
+use Rattle.vm_state.specs.Entries.{entries_of as state_entries}
 use Rattle.world_rounds.proofs.handed.base_values.Given as goal
 
 abbrev pub invariant-loop-key : goal.invariant-loop-key

@@ -1,7 +1,7 @@
 //! The state's entries: one a key, in the order of the keys' bytes.
 ghost use Rattle.std.specs.Prelude.{◌≡◌, [], IfOk, OnOk, OnErr};
 ghost use Rattle.std.specs.Option.{option_copied};
-ghost use Rattle.vm_parts.specs.Entries.{IsInOrder, entry_of, with_entry, keys_with_value};
+ghost use Rattle.vm_state.specs.Entries.{IsInOrder, entry_of, with_entry, keys_with_value};
 
 use crate::state_key::StateKey;
 use bytes::Bytes;

@@ -4,7 +4,7 @@ use Rattle.std.specs.Cmp.Lexicographic.{slice_cmp}
 use Rattle.std.specs.declared.cmp.Ordering.TheVariants.{Less, Equal, Greater}
 use Rattle.std.specs.Ordering.{nat_cmp, ordering_then}
 use Rattle.std.proofs.lemmas.Bool.Decides.{nat_tests}
-use Rattle.vm_parts.specs.StateKeys.{IsKeyNumber, number_of_front}
+use Rattle.vm_state.specs.StateKeys.{IsKeyNumber, number_of_front}
 
 abbrev pub AreBytes : List ℕ → Type 0
 AreBytes text = (k : ℕ) → get_or text k 0 < 256

@@ -1,11 +1,11 @@
 -- The state as it was handed out and as the handler has changed it since.
 use Rattle.std.specs.Prelude.{ℕ, Bool, true, false, List, [], Option, Some, None}
-use Rattle.vm_parts.specs.declared.context.Known.{Known}
-use Rattle.vm_parts.specs.declared.context.Known.TheVariants.{Unknown, Empty, Value}
-use Rattle.vm_parts.specs.declared.context.StateCoverage.{StateCoverage}
-use Rattle.vm_parts.specs.declared.context.StateCoverage.TheVariants.{Partial, Complete}
-use Rattle.vm_parts.specs.declared.context.StateMap.{StateMap}
-use Rattle.vm_parts.specs.Entries.{entry_of, with_entry, keys_with_value}
+use Rattle.vm_state.specs.declared.state_map.Known.{Known}
+use Rattle.vm_state.specs.declared.state_map.Known.TheVariants.{Unknown, Empty, Value}
+use Rattle.vm_state.specs.declared.state_map.StateCoverage.{StateCoverage}
+use Rattle.vm_state.specs.declared.state_map.StateCoverage.TheVariants.{Partial, Complete}
+use Rattle.vm_state.specs.declared.state_map.StateMap.{StateMap}
+use Rattle.vm_state.specs.Entries.{entry_of, with_entry, keys_with_value}
 
 -- a key gets a value
 abbrev pub state_set : List ℕ → List ℕ → StateMap → StateMap

@@ -4,7 +4,7 @@ ghost use Rattle.std.specs.Cmp.{partial_equiv_from_equiv};
 ghost use Rattle.std.specs.Cmp.Lexicographic.{nat_list_cmp_total, nat_list_eq_equiv, pointwise, slice_cmp, texts_po, texts_ties};
 ghost use Rattle.std.specs.Ordering.{nat_cmp};
 ghost use Rattle.std.specs.Prelude.{nat_eq};
-ghost use Rattle.vm_parts.specs.StateKeys.{IsKeyNumber};
+ghost use Rattle.vm_state.specs.StateKeys.{IsKeyNumber};
 
 use plain::Text;
 use std::cmp::Ordering;
@@ -20,7 +20,7 @@ pub struct StateKey {
 
 impl Model for StateKey {
     ghost use Rattle.std.specs.Prelude.{List, ℕ};
-    ghost use Rattle.vm_parts.specs.StateKeys.{IsKeyNumber};
+    ghost use Rattle.vm_state.specs.StateKeys.{IsKeyNumber};
 
     ghost Value = { List ℕ };
 

@@ -2,7 +2,7 @@
 use Rattle.std.specs.Prelude.{ℕ, ◌+◌, ◌-◌, ◌==◌, if◌then◌else◌, nat_lt, Option, Some, None, unwrap_or}
 use Rattle.journal_errors.specs.declared.faults.NamedFault.{NamedFault}
 use Rattle.journal_errors.specs.declared.faults.NamedFault.TheVariants.{ExhaustedCompletionIds, ExhaustedSignalIds, ExhaustedHandles, ExhaustedCommandIndexes, ExhaustedEphemeralIds}
-use Rattle.vm_parts.specs.declared.context.Counters.{Counters}
+use Rattle.vm_state.specs.declared.counters.Counters.{Counters}
 
 -- Command indexes count from 0, completion and ephemeral ids from 1, signal ids and handles from
 -- 17.

@@ -5,10 +5,10 @@ use Rattle.std.specs.Ordering.{is_eq}
 use Rattle.std.specs.List.{AllByRecursion}
 use Rattle.std.specs.List.Sorted.{IsStrictlySortedBy}
 use Rattle.std.specs.Map.{keys_of}
-use Rattle.vm_parts.specs.declared.context.StateCoverage.TheVariants.{Complete}
-use Rattle.vm_parts.specs.Entries.{IsInOrder, by_bytes, entry_of, is_key_among, keys_with_value}
-use Rattle.vm_parts.specs.States.{has_value, known_by}
-use Rattle.vm_parts.proofs.Changes.{key_at}
+use Rattle.vm_state.specs.declared.state_map.StateCoverage.TheVariants.{Complete}
+use Rattle.vm_state.specs.Entries.{IsInOrder, by_bytes, entry_of, is_key_among, keys_with_value}
+use Rattle.vm_state.specs.States.{has_value, known_by}
+use Rattle.vm_state.proofs.Changes.{key_at}
 
 -- of the keys after a key, those that have a value
 some_behind : (k : List ℕ) (es : List (List ℕ × Option (List ℕ))) → AllByRecursion (λ y. by_bytes k y ≡ Less) (keys_of es) → AllByRecursion (λ y. by_bytes k y ≡ Less) (keys_with_value es)

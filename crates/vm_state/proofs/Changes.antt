@@ -9,11 +9,11 @@ use Rattle.std.specs.List.Sorted.{IsStrictlySortedBy}
 use Rattle.std.specs.Map.{keys_of}
 use Rattle.std.proofs.lemmas.Bool.{cond-false, cond-true}
 use Rattle.std.proofs.lemmas.List.Sums.{fold_push}
-use Rattle.vm_parts.specs.declared.context.StateCoverage.{StateCoverage}
-use Rattle.vm_parts.specs.declared.context.Known.TheVariants.{Empty, Value}
-use Rattle.vm_parts.specs.declared.context.StateMap.{StateMap}
-use Rattle.vm_parts.specs.Entries.{IsInOrder, by_bytes, entries_of, entry_of, with_entry}
-use Rattle.vm_parts.specs.States.{value_known, known_by, state_set, state_cleared}
+use Rattle.vm_state.specs.declared.state_map.StateCoverage.{StateCoverage}
+use Rattle.vm_state.specs.declared.state_map.Known.TheVariants.{Empty, Value}
+use Rattle.vm_state.specs.declared.state_map.StateMap.{StateMap}
+use Rattle.vm_state.specs.Entries.{IsInOrder, by_bytes, entries_of, entry_of, with_entry}
+use Rattle.vm_state.specs.States.{value_known, known_by, state_set, state_cleared}
 
 -- a key is where it is
 at_itself : (key : List ℕ) → is_eq (by_bytes key key) ≡ true

@@ -1,6 +1,6 @@
 use Rattle.std.proofs.Common.{◌≡◌, get_or, arith, rules}
-use Rattle.vm_parts.proofs.StateKeys.{AreBytes, more_fits}
-use Rattle.vm_parts.proofs.state_key.front_of.Goals as goal
+use Rattle.vm_state.proofs.StateKeys.{AreBytes, more_fits}
+use Rattle.vm_state.proofs.state_key.front_of.Goals as goal
 
 pub overflow_mul-number : goal.overflow_mul-number
 overflow_mul-number c =

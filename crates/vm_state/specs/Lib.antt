@@ -1,0 +1,5 @@
+pub mod Counting
+pub mod Entries
+pub mod StateKeys
+pub mod States
+pub mod TrackedCalls
