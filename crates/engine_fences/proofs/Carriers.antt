@@ -12,7 +12,7 @@ use Rattle.journal_protocol.specs.Signal.{Signal}
 use Rattle.journal_protocol.specs.Signal.TheVariants as signal
 use Rattle.journal_protocol.specs.ValueOrFailure.{ValueOrFailure}
 use Rattle.journal_entries.specs.Arrivals.{completes_among, completes_by}
-use Rattle.journal_entries.specs.Carried.{carried}
+use Rattle.vm_asks.specs.Carried.{carried}
 use Rattle.journal_entries.specs.declared.completions.Completes.{Completes}
 use Rattle.journal_entries.specs.Entries.{said_at, said_in}
 use Rattle.journal_entries.specs.Journal.{read_before}

@@ -8,7 +8,7 @@ use Rattle.journal_protocol.specs.NotificationId.TheVariants.{CompletionId}
 use Rattle.journal_protocol.specs.NotificationResult.{NotificationResult}
 use Rattle.journal_protocol.specs.NotificationResult.TheVariants as result
 use Rattle.journal_protocol.specs.ValueOrFailure.{ValueOrFailure}
-use Rattle.journal_entries.specs.Carried.{carried}
+use Rattle.vm_asks.specs.Carried.{carried}
 use Rattle.journal_entries.specs.Entries.{note_in, said_in}
 use Rattle.engine_effects.specs.Effects.{completing_result}
 use Rattle.engines.specs.declared.engine.Engine.{Engine}

@@ -19,7 +19,7 @@ use Rattle.engine_effects.specs.Effects.{awoken, effect_of, timer_of}
 use Rattle.journal_protocol.specs.Signal.{Signal}
 use Rattle.journal_protocol.specs.Signal.TheVariants as signal
 use Rattle.journal_protocol.specs.Bodies.{message_in, notification_in}
-use Rattle.journal_entries.specs.Carried.{carried}
+use Rattle.vm_asks.specs.Carried.{carried}
 use Rattle.journal_entries.specs.Journal.{read_before}
 use Rattle.journal_entries.specs.JournalFrames.{is_command_frame, is_notification, notified_by}
 use Rattle.journal_entries.specs.declared.completions.Completes.{Completes}

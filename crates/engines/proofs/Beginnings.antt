@@ -13,7 +13,7 @@ use Rattle.journal_protocol.specs.RawMessage.{RawMessage}
 use Rattle.vm_model.specs.Calls.{Meaning}
 use Rattle.vm_model.specs.Histories.{Honest}
 use Rattle.vm_model.proofs.SoundHistories.{run_is_sound}
-use Rattle.journal_entries.specs.Carried.{all_carried, carried, read_carried}
+use Rattle.vm_asks.specs.Carried.{all_carried, carried, read_carried}
 use Rattle.journal_entries.specs.declared.completions.Completes.TheVariants as completes
 use Rattle.journal_entries.specs.Entries.{journal_entries, journal_frames, note_in, said_at, said_in}
 use Rattle.journal_entries.specs.Journal.{messages_in, notifications_in, read_before}

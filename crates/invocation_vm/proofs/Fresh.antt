@@ -3,7 +3,7 @@ use Rattle.std.proofs.Common.{◌≡◌, true, Option, Some, None, Result, Ok, E
 use Rattle.std.specs.Prelude.{OnOk}
 use Rattle.journal_protocol.specs.Error.{Error}
 use Rattle.vm_types.specs.declared.values.Input.{Input}
-use Rattle.journal_entries.specs.Carried.{AreBelow, all_carried}
+use Rattle.vm_asks.specs.Carried.{AreBelow, all_carried}
 use Rattle.vm_machine.specs.declared.machine.Machine.{Machine}
 use Rattle.vm_machine.specs.Inputs.{input_step}
 use Rattle.vm_machine.specs.Outcomes.{Does, Done, Failed, Gives, Lives, Outcome, Settles, called, called_at, settled}

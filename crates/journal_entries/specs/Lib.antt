@@ -1,7 +1,6 @@
 pub mod Frames
 pub mod Journal
 pub mod JournalFrames
-pub mod Carried
 pub mod Entries
 pub mod Arrivals
 pub mod Completions

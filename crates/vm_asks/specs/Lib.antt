@@ -4,3 +4,4 @@ pub mod Requests
 pub mod StateReads
 pub mod TrackedCommands
 pub mod Awakeables
+pub mod Carried

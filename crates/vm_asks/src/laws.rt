@@ -13,7 +13,7 @@ ghost use Rattle.vm_types.specs.declared.options.ImplicitCancellationOption.TheV
 ghost use Rattle.vm_types.specs.declared.steps.Step.{Step};
 ghost use Rattle.vm_asks.specs.declared.state_read.StateRead.{StateRead};
 ghost use Rattle.vm_asks.specs.Asks.{ask_of, cancel_invocation_command};
-ghost use Rattle.journal_entries.specs.Carried.{carried};
+ghost use Rattle.vm_asks.specs.Carried.{carried};
 ghost use Rattle.vm_asks.specs.GivenIds.{CarriesGiven, IsCallWith, IsSendWith, ids_given};
 ghost use Rattle.vm_asks.specs.Requests.{with_ids};
 ghost use Rattle.vm_asks.specs.StateReads.{eager_form};

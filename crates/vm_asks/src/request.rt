@@ -1,6 +1,6 @@
 //! What a message asks for as a command: how errors show it, and its numbers. One table over messages for all calls.
 ghost use Rattle.std.specs.Prelude.{◌≡◌, ◌<◌, ◌+◌, ◌^◌, max, IfOk};
-ghost use Rattle.journal_entries.specs.Carried.{carried, past};
+ghost use Rattle.vm_asks.specs.Carried.{carried, past};
 ghost use Rattle.vm_asks.specs.Requests.{ids_of, is_cancelled_with, name_of, shown_type, with_ids};
 
 use journal_protocol::{Message, MessageType};

@@ -28,7 +28,7 @@ use Rattle.vm_machine.specs.Inputs.{coverage_of, input_at, input_by, input_count
 use Rattle.vm_machine.specs.Skips.{counters_past, skipped}
 use Rattle.vm_types.specs.Options.{skips_replay}
 use Rattle.vm_machine.proofs.Skipping.{input_is}
-use Rattle.journal_entries.specs.Carried.{past_all}
+use Rattle.vm_asks.specs.Carried.{past_all}
 use Rattle.vm_state.specs.declared.counters.Counters.{Counters}
 use Rattle.vm_types.specs.declared.options.JournalReplay.TheVariants.{Enabled}
 use Rattle.journal_protocol.specs.SignalDelivery.TheVariants.{Queued}

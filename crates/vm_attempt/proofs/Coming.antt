@@ -16,7 +16,7 @@ use Rattle.vm_attempt.specs.declared.progress.Reply.{Reply}
 use Rattle.vm_attempt.specs.declared.progress.Reply.TheVariants as reply
 use Rattle.vm_attempt.specs.Record.{Record, heard}
 use Rattle.vm_attempt.specs.Stepping.{MakesStep, CloseDoes, FeedDoes, StepDoes, Takes, step_asked, fresh_record, future_in, replied}
-use Rattle.journal_entries.specs.Carried.{AreBelow, all_carried}
+use Rattle.vm_asks.specs.Carried.{AreBelow, all_carried}
 use Rattle.vm_machine.specs.declared.machine.Machine.{Machine}
 use Rattle.vm_machine.specs.Inputs.{coverage_of, input_step}
 use Rattle.vm_machine.specs.Making.{fresh}

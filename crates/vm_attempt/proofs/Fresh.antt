@@ -14,7 +14,7 @@ use Rattle.journal_protocol.specs.Bodies.{ephemeral_notification_in, acknowledge
 use Rattle.vm_machine.specs.Ephemerals.{completed_by, result_comes}
 use Rattle.journal_protocol.specs.Notification.{Notification}
 use Rattle.vm_runs.specs.Kept.{is_for}
-use Rattle.journal_entries.specs.Carried.{AreBelow, AreFrom, AreGreater, all_carried}
+use Rattle.vm_asks.specs.Carried.{AreBelow, AreFrom, AreGreater, all_carried}
 use Rattle.vm_state.specs.declared.counters.Counters.{Counters}
 use Rattle.journal_protocol.specs.ProposeRunCompletion.{ProposeRunCompletion}
 use Rattle.vm_machine.specs.declared.machine.Machine.{Machine}

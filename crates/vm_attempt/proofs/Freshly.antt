@@ -1,6 +1,6 @@
 -- The completion ids of what an attempt wrote, where recorded commands are skipped.
 use Rattle.std.proofs.Common.{[], ◌∷◌, sym, subst, inl, inr, ⊎_elim}
-use Rattle.journal_entries.specs.Carried.{AreGreater, all_carried}
+use Rattle.vm_asks.specs.Carried.{AreGreater, all_carried}
 use Rattle.vm_parts.specs.Outboxes.{WholeFrames}
 use Rattle.vm_attempt.specs.Record.{Record, heard}
 use Rattle.vm_attempt.specs.Told.{BeforeInput, JournalCame, HasCome, NumbersFreshly}

@@ -50,7 +50,7 @@ use Rattle.vm_asks.specs.declared.asks.Ask.TheVariants as ask
 use Rattle.vm_asks.specs.declared.state_read.StateRead.{StateRead}
 use Rattle.vm_asks.specs.declared.state_read.StateRead.TheVariants as reads
 use Rattle.vm_asks.specs.Asks.{any_refusal, ask_of, cancel_invocation_command, missing_for}
-use Rattle.journal_entries.specs.Carried.{AreFrom, all_carried, carried, read_carried}
+use Rattle.vm_asks.specs.Carried.{AreFrom, all_carried, carried, read_carried}
 use Rattle.vm_asks.specs.Requests.{ids_of, name_of, shown_type, with_ids}
 use Rattle.vm_asks.specs.StateReads.{eager_type, keys_form, lazy_type, name_read, own_form, recorded_as, recorded_type, result_in, value_form, own_result}
 use Rattle.vm_parts.specs.Ephemerals.{any_in_flight}

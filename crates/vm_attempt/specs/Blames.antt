@@ -25,7 +25,7 @@ use Rattle.std.specs.List.{find}
 use Rattle.journal_protocol.specs.Types.{type_number}
 use Rattle.vm_state.specs.declared.state_map.StateMap.{StateMap}
 use Rattle.vm_state.specs.Counting.{fresh_counters}
-use Rattle.journal_entries.specs.Carried.{past_all}
+use Rattle.vm_asks.specs.Carried.{past_all}
 use Rattle.vm_machine.specs.Skips.{counters_past}
 use Rattle.vm_types.specs.declared.options.JournalReplay.TheVariants.{Disabled}
 use Rattle.vm_types.specs.declared.steps.Answer.{Answer}

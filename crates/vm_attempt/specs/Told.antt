@@ -15,7 +15,7 @@ use Rattle.journal_protocol.specs.Frames.{encoding, IsWhole}
 use Rattle.journal_protocol.specs.Bodies.{start_in}
 use Rattle.vm_state.specs.declared.state_map.StateMap.{StateMap}
 use Rattle.vm_types.specs.declared.options.JournalReplay.TheVariants.{Enabled, Disabled}
-use Rattle.journal_entries.specs.Carried.{AreBelow, AreFrom, AreGreater, all_carried}
+use Rattle.vm_asks.specs.Carried.{AreBelow, AreFrom, AreGreater, all_carried}
 use Rattle.journal_protocol.specs.SignalDelivery.TheVariants.{Queued}
 use Rattle.vm_types.specs.declared.steps.Step.TheVariants as step
 use Rattle.await_trees.specs.declared.tree.UnresolvedFuture.{UnresolvedFuture}

@@ -41,7 +41,7 @@ use Rattle.vm_types.specs.Values.{value_of, id_of_value}
 use Rattle.vm_state.specs.declared.counters.Counters.{Counters}
 use Rattle.vm_state.specs.Counting.{missing_number, missing_signals}
 use Rattle.vm_types.specs.declared.values.Input.{Input}
-use Rattle.journal_entries.specs.Carried.{past_all}
+use Rattle.vm_asks.specs.Carried.{past_all}
 use Rattle.vm_machine.specs.Skips.{counters_past, skipped}
 use Rattle.vm_machine.specs.declared.machine.Machine.{Machine}
 use Rattle.vm_machine.specs.declared.phase.Phase.{Phase}

@@ -4,7 +4,7 @@ use Rattle.std.specs.Option.{option_and_then}
 use Rattle.std.proofs.lemmas.List.{drop_all}
 use Rattle.journal_protocol.specs.RawMessage.{RawMessage}
 use Rattle.journal_protocol.specs.Bodies.{message_in}
-use Rattle.journal_entries.specs.Carried.{past_all, read_past}
+use Rattle.vm_asks.specs.Carried.{past_all, read_past}
 use Rattle.plain.proofs.Places.{from_place}
 
 -- past the command at a place, and then those after it

@@ -14,7 +14,7 @@ use Rattle.journal_protocol.specs.Message.{Message}
 use Rattle.journal_protocol.specs.Message.TheVariants as message
 use Rattle.journal_protocol.specs.RawMessage.{RawMessage}
 use Rattle.journal_protocol.specs.Bodies.{input_in, message_in}
-use Rattle.journal_entries.specs.Carried.{AreBelow, all_carried, carried, carried_by, past, past_all, read_carried, read_past}
+use Rattle.vm_asks.specs.Carried.{AreBelow, all_carried, carried, carried_by, past, past_all, read_carried, read_past}
 use Rattle.vm_state.specs.declared.counters.Counters.{Counters}
 use Rattle.vm_state.specs.Counting.{missing_number, most, next_index}
 use Rattle.vm_types.specs.declared.values.Input.{Input}

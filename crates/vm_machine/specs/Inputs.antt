@@ -38,7 +38,7 @@ use Rattle.vm_machine.specs.Ephemerals.{ephemeral_notification_step}
 use Rattle.vm_machine.specs.Phases.{state_fault}
 use Rattle.vm_machine.specs.Skips.{counters_past, skipped}
 use Rattle.vm_types.specs.Options.{skips_replay}
-use Rattle.journal_entries.specs.Carried.{past_all}
+use Rattle.vm_asks.specs.Carried.{past_all}
 
 -- ---- Start
 

@@ -1,6 +1,6 @@
 //! The first call of a handler, which reads its input, and the last, which ends it.
 ghost use Rattle.std.specs.Prelude.{◌≡◌, IfOk, OnErr, None, false, drop, []};
-ghost use Rattle.journal_entries.specs.Carried.{past_all};
+ghost use Rattle.vm_asks.specs.Carried.{past_all};
 ghost use Rattle.vm_state.specs.Counting.{missing_number};
 ghost use Rattle.vm_machine.specs.Outcomes.{Gives};
 ghost use Rattle.vm_machine.specs.Phases.{is_closed};

@@ -1,6 +1,6 @@
 //! Recorded commands that are skipped: those after the input are dropped, and new commands get indexes and completion ids past theirs.
 ghost use Rattle.std.specs.Prelude.{◌≡◌, drop, length, IfOk};
-ghost use Rattle.journal_entries.specs.Carried.{past_all, read_past};
+ghost use Rattle.vm_asks.specs.Carried.{past_all, read_past};
 ghost use Rattle.journal_protocol.specs.Bodies.{message_in};
 ghost use Rattle.vm_machine.specs.Skips.{counters_past, skipped};
 ghost use Rattle.vm_types.specs.Options.{skips_replay};

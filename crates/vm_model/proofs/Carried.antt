@@ -52,7 +52,7 @@ use Rattle.vm_types.specs.Options.{ignores_payloads, skips_replay}
 use Rattle.vm_model.specs.Calls.Demand.{Exactly, Reads}
 use Rattle.vm_model.specs.Calls.Move.{Answers, Needs, Awaits, Ends, Refuses}
 use Rattle.vm_model.specs.Calls.Usage.{Used, Read, Taken}
-use Rattle.journal_entries.specs.Carried.{carried}
+use Rattle.vm_asks.specs.Carried.{carried}
 use Rattle.vm_model.specs.Carried.{AreCarried, ComeOnce, is_id_among, is_carried, read_carries}
 use Rattle.vm_model.specs.Deliveries.{HasNoTwo, deliveries, was_read}
 use Rattle.vm_model.specs.Moves.{Point, after, and_then, with_read_result, command_used, found, move_at, moved, next, reads_as, start, uses_arrival, uses_command}

@@ -39,7 +39,7 @@ use Rattle.vm_asks.specs.declared.command.Command.{Command}
 use Rattle.vm_asks.specs.declared.state_read.StateRead.{StateRead}
 use Rattle.vm_asks.specs.declared.state_read.StateRead.TheVariants as reads
 use Rattle.vm_asks.specs.Asks.{answer_by, ask_of, call_command, command_answer, deadline_handles, name_in, request_of, sleep_command}
-use Rattle.journal_entries.specs.Carried.{carried}
+use Rattle.vm_asks.specs.Carried.{carried}
 use Rattle.vm_asks.specs.Requests.{ids_of, with_ids}
 use Rattle.vm_asks.specs.StateReads.{lazy_form}
 use Rattle.vm_parts.specs.Mappings.{mapped_from}

@@ -10,7 +10,7 @@ use Rattle.journal_protocol.specs.Bodies.{message_in}
 use Rattle.journal_protocol.specs.Notification.{Notification}
 use Rattle.journal_protocol.specs.NotificationId.TheVariants.{CompletionId}
 use Rattle.journal_protocol.specs.NotificationResult.{NotificationResult}
-use Rattle.journal_entries.specs.Carried.{carried}
+use Rattle.vm_asks.specs.Carried.{carried}
 use Rattle.vm_parts.specs.Tracked.{id_of_result}
 
 -- the id is one of these

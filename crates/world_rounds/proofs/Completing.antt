@@ -9,7 +9,7 @@ use Rattle.journal_protocol.specs.Bodies.{message_in}
 use Rattle.journal_protocol.proofs.Facts.{type_read}
 use Rattle.journal_protocol.specs.Notification.{Notification}
 use Rattle.vm_state.specs.declared.state_map.StateMap.{StateMap}
-use Rattle.journal_entries.specs.Carried.{carried_by, read_carried}
+use Rattle.vm_asks.specs.Carried.{carried_by, read_carried}
 use Rattle.vm_model.specs.Calls.{Meaning, Setup}
 use Rattle.vm_model.specs.Carried.{AreCarried, ComeOnce, is_id_among, is_carried, read_carries}
 use Rattle.journal_entries.specs.Journal.{input_read_from, notifications_in}

@@ -17,7 +17,7 @@ use Rattle.vm_types.specs.declared.options.VMOptions.{VMOptions}
 use Rattle.vm_state.specs.declared.state_map.StateMap.{StateMap}
 use Rattle.vm_parts.specs.Deliveries.{is_known}
 use Rattle.vm_parts.specs.Outboxes.{WholeFrames}
-use Rattle.journal_entries.specs.Carried.{all_carried}
+use Rattle.vm_asks.specs.Carried.{all_carried}
 use Rattle.vm_machine.specs.declared.machine.Machine.{Machine}
 use Rattle.vm_machine.specs.Commands.{knows_next}
 use Rattle.vm_model.specs.Calls.{Meaning, Setup, ready_by_usage}

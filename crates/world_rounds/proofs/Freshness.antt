@@ -7,7 +7,7 @@ use Rattle.journal_protocol.specs.Message.TheVariants as message
 use Rattle.journal_protocol.specs.RawMessage.{RawMessage}
 use Rattle.journal_protocol.specs.Frames.{encoding}
 use Rattle.journal_protocol.specs.Bodies.{start_in}
-use Rattle.journal_entries.specs.Carried.{AreGreater, all_carried}
+use Rattle.vm_asks.specs.Carried.{AreGreater, all_carried}
 use Rattle.journal_entries.specs.Frames.{frames_of}
 use Rattle.vm_model.specs.Calls.{Meaning}
 use Rattle.journal_entries.specs.Journal.{stored_form}

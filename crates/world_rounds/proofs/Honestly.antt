@@ -10,7 +10,7 @@ use Rattle.journal_protocol.specs.Bodies.{message_in, start_in}
 use Rattle.journal_protocol.specs.Notification.{Notification}
 use Rattle.journal_entries.specs.Frames.{Garbage, Rest, Tail, frames_of, frames_joined}
 use Rattle.journal_entries.proofs.Cuts.{frames_of-append}
-use Rattle.journal_entries.specs.Carried.{all_carried}
+use Rattle.vm_asks.specs.Carried.{all_carried}
 use Rattle.vm_state.specs.declared.state_map.StateMap.{StateMap}
 use Rattle.vm_state.specs.Entries.{entries_of as state_entries}
 use Rattle.vm_machine.specs.Inputs.{entries_in}

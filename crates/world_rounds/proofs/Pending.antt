@@ -17,7 +17,7 @@ use Rattle.vm_runs.specs.Firsts.{without_first}
 use Rattle.vm_runs.specs.Pending.{has_handle}
 use Rattle.journal_protocol.specs.ProposeRunCompletion.{ProposeRunCompletion}
 use Rattle.vm_runs.specs.declared.pending.PendingRun.{PendingRun}
-use Rattle.journal_entries.specs.Carried.{AreBelow}
+use Rattle.vm_asks.specs.Carried.{AreBelow}
 use Rattle.vm_model.specs.Carried.{is_id_among}
 use Rattle.journal_entries.specs.Arrivals.{completes_id}
 use Rattle.journal_entries.specs.declared.storing.Written.{Written}

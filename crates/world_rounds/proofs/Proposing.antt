@@ -41,7 +41,7 @@ use Rattle.vm_state.specs.Counting.{missing_number}
 use Rattle.vm_parts.specs.Deliveries.{id_at}
 use Rattle.vm_parts.specs.Outboxes.{WholeFrames}
 use Rattle.vm_parts.proofs.Outboxes.{all_whole, bytes_of}
-use Rattle.journal_entries.specs.Carried.{AreBelow, past_all}
+use Rattle.vm_asks.specs.Carried.{AreBelow, past_all}
 use Rattle.vm_machine.specs.declared.machine.Machine.{Machine}
 use Rattle.vm_machine.specs.declared.phase.Phase.{Phase}
 use Rattle.vm_machine.specs.declared.phase.Phase.TheVariants.{WaitingStart, WaitingReplayEntries, Replaying, Processing, Closed}

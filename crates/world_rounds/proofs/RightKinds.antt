@@ -14,7 +14,7 @@ use Rattle.journal_protocol.specs.Notification.{Notification}
 use Rattle.journal_protocol.specs.NotificationId.TheVariants.{CompletionId}
 use Rattle.journal_protocol.specs.NotificationResult.{NotificationResult}
 use Rattle.journal_protocol.specs.NotificationResult.TheVariants as result
-use Rattle.journal_entries.specs.Carried.{all_carried, carried, carried_by, read_carried}
+use Rattle.vm_asks.specs.Carried.{all_carried, carried, carried_by, read_carried}
 use Rattle.vm_state.specs.declared.state_map.StateMap.{StateMap}
 use Rattle.vm_model.specs.Calls.{Meaning, Setup}
 use Rattle.vm_model.specs.Carried.{AreOfTheirKind, IsInvocationId, is_id_among, is_carried, is_for_invocation, names_invocation, read_carries}

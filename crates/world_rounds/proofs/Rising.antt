@@ -21,7 +21,7 @@ use Rattle.vm_asks.specs.declared.command.Command.{Command}
 use Rattle.vm_asks.specs.declared.state_read.StateRead.{StateRead}
 use Rattle.vm_asks.specs.declared.state_read.StateRead.TheVariants as reads
 use Rattle.vm_asks.specs.Asks.{all_ids, ask_of}
-use Rattle.journal_entries.specs.Carried.{all_carried, carried, carried_by, read_carried}
+use Rattle.vm_asks.specs.Carried.{all_carried, carried, carried_by, read_carried}
 use Rattle.vm_asks.specs.Requests.{ids_of, with_ids}
 use Rattle.vm_asks.specs.StateReads.{eager_form, eager_type, lazy_form, lazy_type, read_in_form, read_by, recorded_as, result_in}
 use Rattle.vm_model.specs.Calls.{Demand, Meaning, Setup}

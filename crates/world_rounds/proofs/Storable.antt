@@ -13,7 +13,7 @@ use Rattle.journal_protocol.specs.Notification.{Notification}
 use Rattle.journal_protocol.specs.NotificationId.{NotificationId}
 use Rattle.journal_protocol.specs.NotificationId.TheVariants.{CompletionId, SignalId, SignalName}
 use Rattle.journal_protocol.specs.NotificationResult.{NotificationResult}
-use Rattle.journal_entries.specs.Carried.{all_carried, carried, carried_by, read_carried}
+use Rattle.vm_asks.specs.Carried.{all_carried, carried, carried_by, read_carried}
 use Rattle.journal_protocol.specs.ProposeRunCompletion.{ProposeRunCompletion}
 use Rattle.vm_model.specs.Carried.{is_id_among, is_carried, read_carries}
 use Rattle.journal_entries.specs.Journal.{messages_in, read_before}

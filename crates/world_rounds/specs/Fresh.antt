@@ -2,7 +2,7 @@
 use Rattle.std.specs.Prelude.{◌≡◌, ℕ, List, [], ◌∷◌, take, drop}
 use Rattle.vm_types.specs.declared.options.JournalReplay.TheVariants.{Disabled}
 use Rattle.vm_types.specs.declared.options.VMOptions.{VMOptions}
-use Rattle.journal_entries.specs.Carried.{AreGreater, all_carried}
+use Rattle.vm_asks.specs.Carried.{AreGreater, all_carried}
 use Rattle.journal_entries.specs.Frames.{frames_of}
 use Rattle.journal_entries.specs.JournalFrames.{commands_among}
 use Rattle.journal_entries.specs.Entries.{journal_frames}

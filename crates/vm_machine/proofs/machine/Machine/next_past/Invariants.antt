@@ -1,5 +1,5 @@
 use Rattle.std.proofs.Common.{◌≡◌, drop}
-use Rattle.journal_entries.specs.Carried.{past_all}
+use Rattle.vm_asks.specs.Carried.{past_all}
 use Rattle.vm_machine.proofs.machine.Machine.next_past.Given as goal
 
 abbrev pub invariant-loop-i : goal.invariant-loop-i
