@@ -26,8 +26,11 @@ use std::alloc::{AllocError, Global};
 use std::fmt;
 use std::time::Duration;
 use vm_asks::{Ask, Command, StateRead, asks};
-use vm_awaits::{Awaited, await_tree, drop_cancel, flatten};
-use vm_inputs::close_input;
+use vm_awaits::{Awaited, await_tree, drop_cancel, finish_run, flatten, is_completed, take};
+use vm_inputs::{
+    close_input, command_before, end, make_read, read_ephemeral, read_input, ready_ephemeral,
+    report, signal, take_ephemeral,
+};
 use vm_machine::Machine;
 use vm_retries::RetryPolicy;
 use vm_state::{StateKey, TrackedCall};
@@ -136,7 +139,10 @@ impl CoreVM {
     fn call_before(&mut self, first: &mut Command, second: &Command) -> VMResult<NotificationHandle>
         ensures { CallsBefore first.old (second.now ∷ []) result (seen self.old) (seen self.new) }
     {
-        event!(self.machine, self.machine.command_before(first, second))
+        event!(
+            self.machine,
+            command_before(&mut self.machine, first, second)
+        )
     }
 
     fn call_both(
@@ -167,7 +173,7 @@ impl CoreVM {
     pub fn read(&mut self, read: StateRead) -> VMResult<NotificationHandle>
         ensures { CallsRead read result (seen self.old) (seen self.new) }
     {
-        event!(self.machine, self.machine.read(&read))
+        event!(self.machine, make_read(&mut self.machine, &read))
     }
 
     /// A call that has a command and answers nothing.
@@ -328,7 +334,7 @@ impl VM for CoreVM {
         }
         quiet_event!(
             self.machine,
-            self.machine.report(error, command_relationship)
+            report(&mut self.machine, error, command_relationship)
         )
     }
 
@@ -346,22 +352,22 @@ impl VM for CoreVM {
     }
 
     fn is_completed(&self, handle: NotificationHandle) -> bool {
-        self.machine.is_completed(handle)
+        is_completed(&self.machine, handle)
     }
 
     fn do_await(&mut self, future: UnresolvedFuture) -> VMResult<AwaitResponse> {
-        if let Some(id) = self.machine.ready_ephemeral() {
+        if let Some(id) = ready_ephemeral(&self.machine) {
             return Ok(AwaitResponse::EphemeralNotificationReady(id));
         }
         flatten(self.try_await(future))
     }
 
     fn take_notification(&mut self, handle: NotificationHandle) -> VMResult<Option<Value>> {
-        event!(self.machine, self.machine.take(handle))
+        event!(self.machine, take(&mut self.machine, handle))
     }
 
     fn sys_input(&mut self) -> VMResult<Input> {
-        event!(self.machine, self.machine.input())
+        event!(self.machine, read_input(&mut self.machine))
     }
 
     fn sys_sleep(
@@ -376,7 +382,7 @@ impl VM for CoreVM {
     fn ephemeral_state_get(&mut self, key: String) -> VMResult<EphemeralCompletionId> {
         event!(
             self.machine,
-            self.machine.read_ephemeral(Text::from_string(key))
+            read_ephemeral(&mut self.machine, Text::from_string(key))
         )
     }
 
@@ -384,7 +390,7 @@ impl VM for CoreVM {
         &mut self,
         id: EphemeralCompletionId,
     ) -> VMResult<Option<Value>> {
-        event!(self.machine, self.machine.take_ephemeral(id))
+        event!(self.machine, take_ephemeral(&mut self.machine, id))
     }
 
     fn sys_state_set(
@@ -475,7 +481,7 @@ impl VM for CoreVM {
     fn create_signal_handle(&mut self, signal_name: String) -> VMResult<NotificationHandle> {
         event!(
             self.machine,
-            self.machine.signal(Text::from_string(signal_name))
+            signal(&mut self.machine, Text::from_string(signal_name))
         )
     }
 
@@ -548,8 +554,12 @@ impl VM for CoreVM {
     ) -> VMResult<()> {
         event!(
             self.machine,
-            self.machine
-                .finish_run(notification_handle, run_exit_result, &retry_policy)
+            finish_run(
+                &mut self.machine,
+                notification_handle,
+                run_exit_result,
+                &retry_policy
+            )
         )
     }
 
@@ -559,7 +569,7 @@ impl VM for CoreVM {
     }
 
     fn sys_end(&mut self) -> VMResult<()> {
-        event!(self.machine, self.machine.end())
+        event!(self.machine, end(&mut self.machine))
     }
 
     fn state(&self) -> State {

@@ -12,9 +12,8 @@ use plain::Text;
 use std::alloc::Global;
 use vm_asks::asks::{call_handles, deadline_handles, send_handle};
 use vm_awaits::Awaited;
-use vm_machine::fault::refuse;
-use vm_machine::skips::skips_replay;
-use vm_machine::{Fault, Machine};
+use vm_inputs::{awakeable, skips_replay};
+use vm_machine::{Fault, Machine, refuse};
 use vm_types::{
     AwaitResponse, AwakeableHandle, CallHandle, DeadlineCallHandle, RunHandle, SendHandle, VMResult,
 };
@@ -99,7 +98,7 @@ pub(crate) fn make_awakeable(machine: &mut Machine) -> Result<AwakeableHandle, F
     if skips_replay(machine.options.journal_replay) {
         return Err(refuse(NamedFault::UnsupportedFeature));
     }
-    machine.awakeable()
+    awakeable(machine)
 }
 
 /// Whether an await sends cancel signals next.

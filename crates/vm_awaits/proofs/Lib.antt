@@ -1,3 +1,4 @@
 pub mod Cancelling
 pub mod Resolving
+pub mod Running
 pub mod Waiting

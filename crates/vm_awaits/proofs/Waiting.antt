@@ -20,7 +20,7 @@ use Rattle.vm_machine.specs.Phases.{is_replaying}
 use Rattle.vm_awaits.specs.Awaits.{executed, last_run, pending_in_replay, pending_on, waits_by, waits_on}
 use Rattle.vm_machine.specs.Proposals.{run_at}
 use Rattle.vm_machine.specs.Outcomes.{Done, Gives}
-use Rattle.vm_machine.proofs.Running.{mapped_none, mapped_some}
+use Rattle.vm_runs.proofs.Finding.{mapped_none, mapped_some}
 
 not_changed : {A : Type 0} (p : A → Bool) (f : A → A) (xs : List A) → find p xs ≡ None → with_first p f xs ≡ xs
 not_changed p f [] e = refl

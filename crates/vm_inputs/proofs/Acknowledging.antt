@@ -17,7 +17,7 @@ use Rattle.vm_machine.specs.declared.machine.Machine.{Machine}
 use Rattle.vm_machine.specs.Inputs.{acknowledged}
 use Rattle.vm_machine.specs.Outcomes.{Done, Failed, Gives}
 use Rattle.vm_machine.specs.Proposals.{proposed}
-use Rattle.vm_machine.proofs.Running.{mapped_none, mapped_some, not_found}
+use Rattle.vm_runs.proofs.Finding.{mapped_none, mapped_some, not_found}
 
 pub none_acknowledged : (id : ℕ) (v : Machine) (kept : List ProposeRunCompletion) → None ≡ option_map result_of (find (is_for id) v.proposals) → kept ≡ without_first (is_for id) v.proposals
     → Gives (acknowledged id (find (is_for id) v.proposals) v) (Err (Refused (named_error name.BadProposeRunCompletionAck None))) v (record v { proposals = kept })

@@ -7,6 +7,7 @@ ghost use Rattle.vm_machine.specs.Phases.{is_waiting};
 ghost use Rattle.vm_machine.specs.Inputs.{start_received, entries_in, coverage_of, counted_entry, start_step, acknowledged, acknowledgement_step, entry_step, notification_step, message_step, malformed_step, close_step};
 ghost use Rattle.vm_parts.specs.Starts.{from_version, start_info_of};
 
+use crate::ephemeral::complete_ephemeral;
 use bytes::Bytes;
 use journal_entries::completion_result;
 use journal_protocol::{NamedFault, Notification, NotificationId, RawMessage, Start, Version};
@@ -220,7 +221,7 @@ fn receive_ephemeral_notification(machine: &mut Machine, raw: &RawMessage) -> Re
         _ => return Err(refuse(NamedFault::UnexpectedState)),
     }
     match raw.read_ephemeral_notification(machine.alloc) {
-        Ok(notification) => machine.complete_ephemeral(notification.id, notification.result),
+        Ok(notification) => complete_ephemeral(machine, notification.id, notification.result),
         Err(plain::Fault::Memory) => Err(Fault::Memory),
         Err(plain::Fault::Malformed) => Err(refuse(NamedFault::BadMessage)),
     }

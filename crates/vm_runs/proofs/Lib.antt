@@ -1,4 +1,5 @@
 pub mod Entries
+pub mod Finding
 pub mod Numbered
 pub mod Places
 pub mod Rising

@@ -1,9 +1,9 @@
 use Rattle.std.proofs.Common.{◌≡◌, ◌≤◌, ◌<◌, length, arith}
-use Rattle.vm_machine.proofs.Passing.{walk_begins, walk_ends, walk_goes_on, walk_stops}
-use Rattle.vm_machine.proofs.machine.Machine.next_past.Goals as goal
+use Rattle.vm_inputs.proofs.Passing.{walk_begins, walk_ends, walk_goes_on, walk_stops}
+use Rattle.vm_inputs.proofs.skips.next_past.Goals as goal
 
 pub loop-i-init : goal.loop-i-init
-loop-i-init c = walk_begins c.items-commands.result.now.items c.args.self.now.commands c.from-next.result c.args.self.now.counters.completion c.items-commands.ensures c.from-next.ensures
+loop-i-init c = walk_begins c.items-commands.result.now.items c.args.machine.now.commands c.from-next.result c.args.machine.now.counters.completion c.items-commands.ensures c.from-next.ensures
 
 pub returns-in-Ok-None : goal.returns-in-Ok-None
 returns-in-Ok-None c =

@@ -1,14 +1,11 @@
 -- What a run's result finds among the pending runs.
-use Rattle.std.proofs.Common.{◌≡◌, ℕ, Bool, true, false, cond, List, [], ◌∷◌, Option, Some, None, Result, Ok, Err, refl, sym, ap, subst, ◌∙◌}
-use Rattle.std.specs.List.{find}
-use Rattle.std.specs.Option.{option_map}
+use Rattle.std.proofs.Common.{◌≡◌, ℕ, Option, Some, None, Result, Ok, Err, refl, sym, ap, subst, ◌∙◌}
 use Rattle.await_trees.specs.declared.handle.NotificationHandle.{NotificationHandle}
 use Rattle.journal_protocol.specs.NamedFault.TheVariants as name
 use Rattle.journal_protocol.specs.Errors.{named_error}
 use Rattle.vm_retries.specs.declared.policy.RetryPolicy.{RetryPolicy}
 use Rattle.vm_runs.specs.declared.settling.Settlement.{Settlement}
 use Rattle.vm_types.specs.declared.runs.RunExitResult.{RunExitResult}
-use Rattle.vm_runs.specs.Firsts.{without_first}
 use Rattle.vm_runs.specs.Settling.{SettlesRun}
 use Rattle.vm_runs.specs.declared.pending.PendingRun.{PendingRun}
 use Rattle.vm_machine.specs.declared.fault.Fault.{Fault}
@@ -16,29 +13,6 @@ use Rattle.vm_machine.specs.declared.fault.Fault.TheVariants.{Memory, Refused}
 use Rattle.vm_machine.specs.declared.machine.Machine.{Machine}
 use Rattle.vm_machine.specs.Outcomes.{Done, Failed, GivesBy, lasting}
 use Rattle.vm_machine.specs.Proposals.{Settled, SettlesAs, earlier_count, earlier_nanos, run_at, without_run}
-
--- ---- the first item that passes a test
-
-pub not_found : {A : Type 0} (p : A → Bool) (xs : List A) → find p xs ≡ None → without_first p xs ≡ xs
-not_found p [] e = refl
-not_found p (x ∷ xs) e = by_test (p x) (not_found p xs) e
-  where
-    by_test : (b : Bool) → (find p xs ≡ None → without_first p xs ≡ xs) → cond b (Some x) (find p xs) ≡ None → cond b xs (x ∷ without_first p xs) ≡ x ∷ xs
-    by_test true more h = absurd cc
-    by_test false more h = ap (λ l. x ∷ l) (more h)
-
-pub mapped_none : {A B : Type 0} (f : A → B) (o : Option A) → None ≡ option_map f o → o ≡ None
-mapped_none f None e = refl
-mapped_none f (Some x) e = absurd cc
-
-pub mapped_some : {A B : Type 0} (f : A → B) (o : Option A) (y : B) → Some y ≡ option_map f o → (x : A) × (o ≡ Some x) × (y ≡ f x)
-mapped_some f None y e = absurd cc
-mapped_some f (Some x) y e = (x, refl, same)
-  where
-    same : y ≡ f x
-    same = cc
-
--- ---- a run's result
 
 pub settled_none : (handle : NotificationHandle) (exit : RunExitResult) (policy : RetryPolicy) (v w : Machine) → None ≡ run_at handle.0 v → w ≡ v
     → GivesBy (Settled handle exit policy (run_at handle.0 v) v) (Err (Refused (named_error name.NoPendingRun None))) v w

@@ -5,12 +5,11 @@ ghost use Rattle.journal_protocol.specs.Bodies.{message_in};
 ghost use Rattle.vm_machine.specs.Skips.{counters_past, skipped};
 ghost use Rattle.vm_types.specs.Options.{skips_replay};
 
-use crate::machine::Machine;
-use crate::phase::Phase;
 use journal_protocol::{NamedFault, RawMessage};
 use plain::Fault;
 use std::alloc::{AllocError, Global};
 use vm_asks::request::past;
+use vm_machine::{Machine, Phase};
 use vm_state::Counters;
 use vm_types::JournalReplay;
 
@@ -60,38 +59,36 @@ pub fn counters_past(dropped: usize, id: u64, counters: &Counters) -> Result<Cou
     })
 }
 
-impl Machine {
-    /// The completion id that is next past those that the recorded commands after the first carry; none if one of them can't
-    /// be read.
-    pub fn next_past(&self) -> Result<Option<u64>, AllocError>
-        ensures { IfOk result (λ id. id
-            ≡ past_all self.now.counters.completion (drop 1 self.now.commands)) }
-    {
-        let commands = self.commands.items();
-        let mut next = u64::from(self.counters.completion);
-        for i in 1..commands.len() {
-            match read_past(self.alloc, next, &commands[i]) {
-                Err(error) => return Err(error),
-                Ok(None) => return Ok(None),
-                Ok(Some(id)) => next = id,
-            }
+/// The completion id that is next past those that the recorded commands after the first carry; none if one of them can't
+/// be read.
+pub fn next_past(machine: &Machine) -> Result<Option<u64>, AllocError>
+    ensures { IfOk result (λ id. id
+        ≡ past_all machine.now.counters.completion (drop 1 machine.now.commands)) }
+{
+    let commands = machine.commands.items();
+    let mut next = u64::from(machine.counters.completion);
+    for i in 1..commands.len() {
+        match read_past(machine.alloc, next, &commands[i]) {
+            Err(error) => return Err(error),
+            Ok(None) => return Ok(None),
+            Ok(Some(id)) => next = id,
         }
-        Ok(Some(next))
     }
+    Ok(Some(next))
+}
 
-    /// How many recorded commands stand after the first.
-    pub fn dropped(&self) -> usize
-        ensures { result ≡ length (drop 1 self.now.commands) }
-    {
-        self.commands.items().len().saturating_sub(1)
-    }
+/// How many recorded commands stand after the first.
+pub fn dropped(machine: &Machine) -> usize
+    ensures { result ≡ length (drop 1 machine.now.commands) }
+{
+    machine.commands.items().len().saturating_sub(1)
+}
 
-    /// Drops the recorded commands that are left; new ones are written next, by these counters.
-    pub fn skip(&mut self, counters: Counters)
-        ensures { self.new ≡ skipped counters self.old }
-    {
-        self.commands.clear();
-        self.phase = Phase::Processing;
-        self.counters = counters;
-    }
+/// Drops the recorded commands that are left; new ones are written next, by these counters.
+pub fn skip(machine: &mut Machine, counters: Counters)
+    ensures { machine.new ≡ skipped counters machine.old }
+{
+    machine.commands.clear();
+    machine.phase = Phase::Processing;
+    machine.counters = counters;
 }

@@ -1,6 +1,0 @@
-use Rattle.std.proofs.Common.{◌≡◌, drop}
-use Rattle.vm_asks.specs.Carried.{past_all}
-use Rattle.vm_machine.proofs.machine.Machine.next_past.Given as goal
-
-abbrev pub invariant-loop-i : goal.invariant-loop-i
-invariant-loop-i l = past_all l.next (drop l.i l.commands.items) ≡ past_all l.self.counters.completion (drop 1 l.self.commands)
