@@ -6,7 +6,7 @@ use Rattle.std.specs.List.{AllZip}
 use Rattle.std.specs.Io.KnownBytes.{Appends}
 use Rattle.std.specs.declared.io.Error.{Error as IoError}
 use Rattle.std.specs.declared.vec.Vec.{Vec}
-use Rattle.hints.specs.Places.{IsLineNumbered}
+use Rattle.lines.specs.Places.{IsLineNumbered}
 use Rattle.journal_protocol.specs.Version.{Version}
 use Rattle.vm_types.specs.Options.{default_options}
 use Rattle.program_runs.specs.Ends.{Says}

@@ -9,8 +9,8 @@ ghost use Rattle.program_runs.specs.declared.run_end.RunEnd.TheVariants.{Refused
 use crate::play::{Played, play_text};
 use engine_lines::run_end::{Ending, Refusal, RunEnd};
 use engine_lines::script::Unread;
-use hints::place::copy_of_line;
 use journal_protocol::Version;
+use lines::place::copy_of_line;
 use program_runs::streams::{Sink, Source};
 use std::alloc::Global;
 

@@ -4,7 +4,7 @@ use Rattle.std.proofs.Common.{Global}
 use Rattle.std.specs.Str.{IsTrimAscii, IsUtf8}
 use Rattle.std.specs.declared.vec.Vec.{Vec}
 use Rattle.std.specs.declared.io.Error.{Error as IoError}
-use Rattle.hints.specs.Places.{IsLineNumbered}
+use Rattle.lines.specs.Places.{IsLineNumbered}
 use Rattle.lines.specs.Text.{IsFirstLine}
 use Rattle.journal_protocol.specs.RawMessage.{RawMessage}
 use Rattle.journal_protocol.specs.Frames.{Whole, next_of}

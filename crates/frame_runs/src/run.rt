@@ -9,9 +9,9 @@ ghost use Rattle.frame_runs.specs.Runs.{AddsToOutput, AreShown, ArePrinted, IsBa
 use crate::refusal::{Refusal, RunEnd};
 use bytes::Bytes;
 use frame_lines::entry::{frame_of, print_frame, print_rest};
-use hints::place::copy_of_line;
 use journal_protocol::{Decoder, RawMessage};
 use lines::line::Line;
+use lines::place::copy_of_line;
 use lines::text::first_line;
 use plain::Fault;
 use program_runs::streams::{Sink, Source};

@@ -3,7 +3,7 @@
 
 use frame_runs::refusal::{Refusal, RunEnd};
 use frame_runs::run::{decode, encode};
-use hints::note::frame_note;
+use lines::note::frame_note;
 use program_runs::command_line::asks_for_help;
 use program_runs::streams::Plain;
 use std::env::{self, Env};

@@ -1,7 +1,10 @@
 pub mod Atoms
 pub mod Durations
 pub mod Fields
+pub mod Hints
+pub mod Notes
 pub mod Pieces
+pub mod Places
 pub mod Readings
 pub mod Text
 pub mod Words

@@ -2,9 +2,9 @@
 // hint is the form.
 use frame_lines::entry::frame_of;
 use frame_lines::type_names::{name_of, type_named};
-use hints::forms::{FRAMES, ROUNDS};
-use hints::hint::{Hint, form_word, frame_hint, round_hint};
 use journal_protocol::MessageType;
+use lines::forms::{FRAMES, ROUNDS};
+use lines::hint::{Hint, form_word, frame_hint, round_hint};
 use lines::pieces::words;
 use plain::Fault;
 use std::alloc::Global;

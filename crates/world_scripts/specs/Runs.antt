@@ -5,7 +5,7 @@ use Rattle.std.proofs.Common.{Global}
 use Rattle.std.specs.Io.KnownBytes.{Appends}
 use Rattle.std.specs.declared.io.Error.{Error as IoError}
 use Rattle.std.specs.declared.vec.Vec.{Vec}
-use Rattle.hints.specs.Places.{IsLineNumbered}
+use Rattle.lines.specs.Places.{IsLineNumbered}
 use Rattle.journal_protocol.specs.Frames.{encoding}
 use Rattle.journal_protocol.specs.Message.TheVariants as message
 use Rattle.journal_protocol.specs.Version.{Version}

@@ -1,6 +1,6 @@
 //! A line of a text by its number.
 ghost use Rattle.std.specs.Prelude.{◌≡◌, IfSome, option_map, slice_get};
-ghost use Rattle.hints.specs.Places.{IsLineNumbered, text_lines};
+ghost use Rattle.lines.specs.Places.{IsLineNumbered, text_lines};
 
 use std::alloc::Global;
 

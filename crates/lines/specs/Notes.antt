@@ -3,9 +3,9 @@ use Rattle.std.specs.Prelude.{◌≡◌, ◌++◌, ℕ, if◌then◌else◌, Lis
 use Rattle.std.specs.Borrow.{Bor}
 use Rattle.std.specs.Fmt.{decimal}
 use Rattle.lines.specs.Atoms.{quoted}
-use Rattle.hints.specs.Hints.{IsHint, form_word}
-use Rattle.hints.specs.declared.hint.Hint.{Hint}
-use Rattle.hints.specs.declared.hint.Hint.TheVariants.{NoText, Unclosed, UnknownWord, UnknownField, Form}
+use Rattle.lines.specs.Hints.{IsHint, form_word}
+use Rattle.lines.specs.declared.hint.Hint.{Hint}
+use Rattle.lines.specs.declared.hint.Hint.TheVariants.{NoText, Unclosed, UnknownWord, UnknownField, Form}
 
 -- the line with a word in quotes more; if the word has more than 60 bytes, the first of them, and
 -- two dots

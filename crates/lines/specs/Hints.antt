@@ -5,8 +5,8 @@ use Rattle.std.specs.Cmp.Lexicographic.{pointwise}
 use Rattle.std.specs.List.{before_first, filter_map, find, list_all, list_any, position, starts_with}
 use Rattle.std.specs.Str.{IsTrimAscii, IsUtf8}
 use Rattle.lines.specs.Pieces.{AreWords, outside, place}
-use Rattle.hints.specs.declared.hint.Hint.{Hint}
-use Rattle.hints.specs.declared.hint.Hint.TheVariants.{NoText, Unclosed, UnknownWord, UnknownField, Form}
+use Rattle.lines.specs.declared.hint.Hint.{Hint}
+use Rattle.lines.specs.declared.hint.Hint.TheVariants.{NoText, Unclosed, UnknownWord, UnknownField, Form}
 
 -- a form's first word
 abbrev pub form_word : List ℕ → List ℕ

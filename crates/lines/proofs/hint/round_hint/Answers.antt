@@ -1,7 +1,7 @@
 use Rattle.std.proofs.Common.{subst, sym}
 use Rattle.lines.specs.Pieces.{AreWords}
-use Rattle.hints.proofs.Finding.{arrivals_found, rounds_found}
-use Rattle.hints.proofs.hint.round_hint.Goals as goal
+use Rattle.lines.proofs.Finding.{arrivals_found, rounds_found}
+use Rattle.lines.proofs.hint.round_hint.Goals as goal
 
 pub returns-in-Some : goal.returns-in-Some
 returns-in-Some c =

@@ -1,7 +1,7 @@
 use Rattle.std.proofs.Common.{rules, ◌==◌}
 use Rattle.std.proofs.lemmas.Iterator.Consumers.{nth_from_yields_List}
 use Rattle.std.proofs.lemmas.Iterator.Splits.{YieldsList-from_slice_split}
-use Rattle.hints.proofs.place.line_after.Goals as goal
+use Rattle.lines.proofs.place.line_after.Goals as goal
 
 pub returns : goal.returns
 returns c =

@@ -3,8 +3,8 @@ use Rattle.std.proofs.Common.{◌≡◌, inr, ℕ, Bool, true, false, ◌&&◌, 
 use Rattle.std.specs.Borrow.{Bor}
 use Rattle.std.specs.Str.{IsTrimAscii, IsUtf8}
 use Rattle.lines.specs.Pieces.{AreWords}
-use Rattle.hints.specs.declared.hint.Hint.{Hint}
-use Rattle.hints.specs.Hints.{IsHint, IsHintByForms, IsHintOfEither, IsRoundHint, IsWordsHint, frame_words, may_be_frame, takes_frame}
+use Rattle.lines.specs.declared.hint.Hint.{Hint}
+use Rattle.lines.specs.Hints.{IsHint, IsHintByForms, IsHintOfEither, IsRoundHint, IsWordsHint, frame_words, may_be_frame, takes_frame}
 
 -- the words of a frame are some
 not_empty : (words : List (Bor (List ℕ))) → frame_words words ≡ Some [] → ⊥

@@ -1,7 +1,7 @@
 -- The first name among words that is unknown.
 use Rattle.std.proofs.Common.{◌≡◌, ◌<◌, ◌≤◌, ◌+◌, ℕ, zero, suc, true, false, List, [], ◌∷◌, length, drop, get_or, Some, None, refl, arith, add-one}
 use Rattle.std.specs.Borrow.{Bor}
-use Rattle.hints.specs.Hints.{has_field, field_name, unknown_name}
+use Rattle.lines.specs.Hints.{has_field, field_name, unknown_name}
 
 module _ (form_words : List (Bor (List ℕ))) (d : Bor (List ℕ)) where
   -- the words from here on, if the word here has no name

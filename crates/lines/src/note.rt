@@ -1,11 +1,11 @@
 //! A hint as a line for people.
 ghost use Rattle.std.specs.Prelude.{◌≡◌, ◌++◌, IfOk, IfSome, OnOk, drop, map};
-ghost use Rattle.hints.specs.Hints.{IsHintByForms, IsRoundHint};
-ghost use Rattle.hints.specs.Notes.{IsNote, more_first_words, note_text, with_first_words, with_hint, with_quoted};
+ghost use Rattle.lines.specs.Hints.{IsHintByForms, IsRoundHint};
+ghost use Rattle.lines.specs.Notes.{IsNote, more_first_words, note_text, with_first_words, with_hint, with_quoted};
 
 use crate::forms::{FRAMES, ROUNDS};
 use crate::hint::{Hint, form_word, frame_hint, round_hint};
-use lines::line::Line;
+use crate::line::Line;
 use std::alloc::{AllocError, Global};
 
 /// How many bytes of a word are shown.

@@ -1,7 +1,7 @@
 use Rattle.std.proofs.Common.{subst, sym}
 use Rattle.lines.specs.Pieces.{AreWords}
-use Rattle.hints.proofs.Finding.{frames_found}
-use Rattle.hints.proofs.hint.frame_hint.Goals as goal
+use Rattle.lines.proofs.Finding.{frames_found}
+use Rattle.lines.proofs.hint.frame_hint.Goals as goal
 
 pub returns-in-Ok : goal.returns-in-Ok
 returns-in-Ok c =

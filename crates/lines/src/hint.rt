@@ -3,10 +3,10 @@ ghost use Rattle.std.specs.Prelude.{◌≡◌, ◌==◌, ◌<◌, length, [], If
 ghost use Rattle.std.specs.List.{list_all, position};
 ghost use Rattle.std.specs.Str.{IsUtf8};
 ghost use Rattle.lines.specs.Pieces.{AreWords};
-ghost use Rattle.hints.specs.Hints.{IsHint, IsHintAfterFirst, IsHintByForms, IsRoundHint, IsUnreadHint, IsWordsHint, form_word, first_form, frame_words, begins_with, has_field, is_field, is_in_name, may_be_frame, field_name, takes_frame, unknown_name};
+ghost use Rattle.lines.specs.Hints.{IsHint, IsHintAfterFirst, IsHintByForms, IsRoundHint, IsUnreadHint, IsWordsHint, form_word, first_form, frame_words, begins_with, has_field, is_field, is_in_name, may_be_frame, field_name, takes_frame, unknown_name};
 
 use crate::forms::{FRAMES, ROUNDS};
-use lines::pieces::words;
+use crate::pieces::words;
 use plain::Fault;
 use std::alloc::{AllocError, Global};
 
@@ -101,7 +101,7 @@ fn field_name(word: &[u8]) -> Option<&[u8]>
 }
 
 /// The first name among the words that is no field of the form.
-#[tactic(auto, using(crate::proofs::Naming::no_name, crate::proofs::Naming::known_name, crate::proofs::Naming::first_unknown, crate::proofs::Naming::none_unknown))]
+#[tactic(auto, using(crate::proofs::UnknownNames::no_name, crate::proofs::UnknownNames::known_name, crate::proofs::UnknownNames::first_unknown, crate::proofs::UnknownNames::none_unknown))]
 fn unknown_name<'a>(form_words: &[&[u8]], words: &[&'a [u8]]) -> Option<&'a [u8]>
     ensures { MatchOption result (unknown_name form_words.now words.now ≡ None)
         (λ name. unknown_name form_words.now words.now ≡ Some name.now) }

@@ -1,7 +1,0 @@
-//! Hints for a person whose line is refused: which word isn't understood, and what may be in its place.
-#![tactic(auto)]
-
-pub mod forms;
-pub mod hint;
-pub mod note;
-pub mod place;
