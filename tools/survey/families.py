@@ -49,7 +49,7 @@ FAMILIES = (
         "line",
         "Lines and scripts",
         "What people read and write: frames, calls, rounds and many invocations as lines of text.",
-        ("lines", "call_lines", "call_scripts", "call_details", "world_scripts", "handler_plans", "engine_lines", "engine_scripts"),
+        ("lines", "call_lines", "call_scripts", "call_details", "world_scripts", "engine_lines", "engine_scripts"),
         ("line_*", "frame_*"),
     ),
     Family(

@@ -1,3 +1,4 @@
 pub mod Asking
 pub mod Calling
 pub mod Making
+pub mod Saying

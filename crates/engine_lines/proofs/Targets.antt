@@ -2,7 +2,7 @@
 use Rattle.std.proofs.Common.{◌≡◌, List, [], ◌∷◌, ◌++◌, length, append_assoc, sym, subst, arith}
 use Rattle.std.specs.List.{AllZip}
 use Rattle.std.proofs.lemmas.List.{append-nil}
-use Rattle.handler_plans.specs.declared.plan.Plan.{Plan}
+use Rattle.call_lines.specs.declared.plan.Plan.{Plan}
 use Rattle.engine_inboxes.specs.declared.target.Target.{Target}
 use Rattle.engine_lines.specs.declared.script.Planned.{Planned}
 use Rattle.engine_lines.specs.Targets.{IsTarget}

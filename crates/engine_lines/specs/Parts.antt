@@ -6,7 +6,7 @@ use Rattle.journal_protocol.specs.NotificationResult.{NotificationResult}
 use Rattle.journal_protocol.specs.Signal.{Signal}
 use Rattle.journal_protocol.specs.ValueOrFailure.{ValueOrFailure}
 use Rattle.frame_values.specs.Choices.{notification_result_notation, signal_notation, value_or_failure_notation}
-use Rattle.handler_plans.specs.declared.plan.Plan.{Plan}
+use Rattle.call_lines.specs.declared.plan.Plan.{Plan}
 use Rattle.engine_inboxes.specs.declared.order.Begun.{Begun}
 use Rattle.engine_inboxes.specs.declared.order.Callee.{Callee}
 use Rattle.engine_inboxes.specs.declared.target.Target.{Target}

@@ -12,7 +12,7 @@ use Rattle.lines.specs.Pieces.{AreWords}
 use Rattle.lines.specs.Text.{says_nothing}
 use Rattle.lines.specs.Words.{AreTwoTexts, IsNumberOf, text_at, words_after_first}
 use Rattle.line_parts.specs.Results.{IsProposal}
-use Rattle.handler_plans.specs.Said.{SaysStep}
+use Rattle.call_lines.specs.Said.{SaysStep}
 use Rattle.engine_lines.specs.declared.said.Asked.{Asked}
 use Rattle.engine_lines.specs.declared.said.Deed.{Deed}
 use Rattle.engine_lines.specs.declared.said.Deed.TheVariants as deed

@@ -1,6 +1,6 @@
 -- The handlers of a script, as an engine's.
 use Rattle.std.specs.Prelude.{◌≡◌}
-use Rattle.handler_plans.specs.declared.plan.Plan.{Plan}
+use Rattle.call_lines.specs.declared.plan.Plan.{Plan}
 use Rattle.engine_inboxes.specs.declared.target.Target.{Target}
 use Rattle.engine_lines.specs.declared.script.Planned.{Planned}
 

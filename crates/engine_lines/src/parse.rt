@@ -5,7 +5,7 @@ ghost use Rattle.lines.specs.Words.{text_at};
 ghost use Rattle.engine_lines.specs.Said.{AreStepsMade, AreStored, AsksFor, IsCountOrAll, IsCountAlone, IsExclusive, IsNumberAlone, IsTimeAlone, IsWholeTime, NamesHandler, SaysDeed, SaysHappening, SaysEngineLine, SaysRow, SaysOfEngine, SaysOfWords, asked_names};
 
 use crate::said::{Asked, Deed, Event, Named, Said};
-use handler_plans::reading::step_of;
+use call_lines::reading::step_of;
 use line_parts::arguments::{optional_text, two_texts};
 use line_parts::results::proposal_of;
 use lines::atoms::{u32_of, u64_of};

@@ -4,9 +4,9 @@ ghost use Rattle.std.specs.Option.{option_copied};
 ghost use Rattle.engine_lines.specs.Parts.{asked_text, begun_text, brought_text, callee_text, did_text, due_text, key_text, live_text, named_text, place_text, result_text, target_names, time_text, wait_text, waiting_text, word_and_count};
 
 use crate::did::Did;
+use call_lines::plan::Plan;
 use engine_inboxes::{Begun, Callee, Target, Waiting};
 use frame_values::value::Value;
-use handler_plans::plan::Plan;
 use journal_protocol::{NotificationResult, Signal, ValueOrFailure};
 use lines::line::Line;
 use plain::Text;

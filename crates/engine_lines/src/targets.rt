@@ -5,8 +5,8 @@ ghost use Rattle.engine_lines.specs.Targets.{IsTarget};
 
 use crate::said::Named;
 use crate::script::Planned;
+use call_lines::plan::Plan;
 use engine_inboxes::Target;
-use handler_plans::plan::Plan;
 use std::alloc::{AllocError, Global};
 
 /// A handler of the script, as a target.

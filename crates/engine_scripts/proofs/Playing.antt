@@ -1,7 +1,7 @@
 -- Events of a script, one after another, and what they leave.
 use Rattle.std.proofs.Common.{◌≡◌, ℕ, List, [], ◌∷◌, ◌++◌, length, refl, sym, subst, arith}
 use Rattle.std.specs.List.{AllByRecursion}
-use Rattle.handler_plans.specs.declared.plan.Plan.{Plan}
+use Rattle.call_lines.specs.declared.plan.Plan.{Plan}
 use Rattle.engines.proofs.Keeping.{kept_from_nothing}
 use Rattle.engines.specs.Between.{AllKept}
 use Rattle.engines.specs.Engines.{AllHappen}

@@ -2,8 +2,8 @@
 use Rattle.std.specs.Prelude.{◌≡◌, ℕ, List}
 use Rattle.std.specs.List.{AllByRecursion}
 use Rattle.vm_model.specs.Calls.{Meaning}
-use Rattle.handler_plans.specs.Plans.{plan_step}
-use Rattle.handler_plans.specs.declared.plan.Plan.{Plan}
+use Rattle.call_lines.specs.Plans.{plan_step}
+use Rattle.call_lines.specs.declared.plan.Plan.{Plan}
 use Rattle.world_rounds.specs.declared.types.Event.TheVariants as attempt
 use Rattle.engines.specs.Engines.{AllHappen, HappeningDoes}
 use Rattle.engines.specs.declared.engine.Engine.{Engine}

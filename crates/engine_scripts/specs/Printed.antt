@@ -1,6 +1,6 @@
 -- What is fixed of the text of a report.
 use Rattle.std.specs.Prelude.{◌≡◌, ◌+◌, ℕ, List, [], ◌∷◌, ◌++◌, codes, flat_map, slice_get, Option, Some, None, is_some}
-use Rattle.handler_plans.specs.declared.plan.Plan.{Plan}
+use Rattle.call_lines.specs.declared.plan.Plan.{Plan}
 use Rattle.engines.specs.Members.{MemberView}
 use Rattle.engines.specs.declared.engine.Engine.{Engine}
 use Rattle.engines.specs.declared.engine.Invocation.{Invocation}

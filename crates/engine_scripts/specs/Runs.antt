@@ -13,7 +13,7 @@ use Rattle.program_runs.specs.Ends.{Says}
 use Rattle.program_runs.specs.Streams.{AppendsSome}
 use Rattle.program_runs.specs.declared.run_end.RunEnd.{RunEnd}
 use Rattle.program_runs.specs.declared.run_end.RunEnd.TheVariants.{Refused, ReadFailed, NoMemory, WriteFailed, Written}
-use Rattle.handler_plans.specs.declared.plan.Plan.{Plan}
+use Rattle.call_lines.specs.declared.plan.Plan.{Plan}
 use Rattle.engines.specs.Between.{AllKept}
 use Rattle.engine_inboxes.specs.Faults.{IsNoArrival}
 use Rattle.engines.specs.declared.engine.Engine.{Engine}

@@ -6,13 +6,13 @@ ghost use Rattle.world_rounds.specs.declared.types.Event.TheVariants as attempt;
 ghost use Rattle.engine_lines.specs.Orders.{submitted_order};
 ghost use Rattle.engine_scripts.specs.Events.{DeedDoes, EventDoes, HappenOf, HappensOnce, IsDeliveryTo, IsSettling};
 
+use call_lines::plan::Plan;
 use engine_inboxes::EngineFault;
 use engine_lines::did::{Did, latest, place_after, something_if};
 use engine_lines::orders::order_of;
 use engine_lines::said::{Asked, Deed, Event};
 use engine_lines::targets::steps_of;
 use engines::{Engine, Happening};
-use handler_plans::plan::Plan;
 use line_parts::results::Proposal;
 use world_rounds::Event as AttemptEvent;
 

@@ -5,12 +5,12 @@ ghost use Rattle.engine_scripts.specs.Runs.{AllDo, EventsEnd, IsNew, PlaysEvents
 
 use crate::happen::happens;
 use crate::report::print_engine;
+use call_lines::plan::Plan;
 use engine_inboxes::{EngineFault, Target};
 use engine_lines::parts::print_did;
 use engine_lines::script::{Numbered, Script, Unread, script_of};
 use engine_lines::targets::targets_of;
 use engines::Engine;
-use handler_plans::plan::Plan;
 use journal_protocol::Version;
 use lines::line::Line;
 use std::alloc::{AllocError, Global};

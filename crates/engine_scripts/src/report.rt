@@ -3,13 +3,13 @@ ghost use Rattle.std.specs.Prelude.{◌≡◌, ◌++◌, OnOk};
 ghost use Rattle.engine_lines.specs.Printed.{AddsText};
 ghost use Rattle.engine_scripts.specs.Printed.{PrintsEngine, PrintsInvocation, PrintsMember, called_text, invocation_head, options_text};
 
+use call_lines::plan::Plan;
 use engine_lines::frames::print_entry;
 use engine_lines::parts::{
     print_asked, print_begun, print_callees, print_count, print_inbox, print_key, print_live,
     print_result, print_target, print_time,
 };
 use engines::{Engine, Invocation, Member};
-use handler_plans::plan::Plan;
 use lines::line::Line;
 use std::alloc::{AllocError, Global};
 

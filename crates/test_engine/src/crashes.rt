@@ -2,10 +2,10 @@ use crate::bench::{
     Course, Loss, asks, asks_in_vain, does, member_at, order, played, targets, with_loss,
 };
 use bytes::Bytes;
+use call_lines::plan::{Plan, Plan};
 use engine_fences::FencedEngine;
 use engine_inboxes::Target;
 use engines::{Engine, Happening};
-use handler_plans::plan::Plan;
 use journal_entries::entry::said_at;
 use journal_protocol::{ValueOrFailure, Version};
 use std::alloc::Global;

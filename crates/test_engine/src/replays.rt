@@ -1,8 +1,8 @@
 // The check before a new version of a handler takes over, on a journal that an engine has stored, with each of its outcomes.
 use crate::bench::{Loss, member_at, played, targets, with_loss};
 use bytes::Bytes;
+use call_lines::plan::Plan;
 use engine_inboxes::Target;
-use handler_plans::plan::Plan;
 use journal_entries::JournalFault;
 use journal_protocol::Version;
 use plain::{Items, Text};

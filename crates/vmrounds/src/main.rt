@@ -4,7 +4,7 @@
 mod details;
 
 use crate::details::explain_rounds;
-use handler_plans::reading::plan_of;
+use call_lines::reading::plan_of;
 use handlers::named::Named;
 use journal_protocol::Version;
 use lines::note::round_note;

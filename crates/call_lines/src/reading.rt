@@ -1,10 +1,10 @@
 //! The lines that say a plan, one a step: those lines of `vmscript` that a handler's calls are.
 ghost use Rattle.std.specs.Prelude.{IfErr, IfOk};
-ghost use Rattle.handler_plans.specs.Said.{AreSaid, SaysStep};
+ghost use Rattle.call_lines.specs.Said.{AreSaid, SaysStep};
 
+use crate::parse::parse;
 use crate::plan::Plan;
-use call_lines::parse::parse;
-use call_lines::request::Request;
+use crate::request::Request;
 use plain::Fault;
 use std::alloc::Global;
 use vm_types::{Call, Step};

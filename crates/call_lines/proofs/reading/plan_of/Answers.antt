@@ -1,9 +1,9 @@
 -- One line more is read.
 use Rattle.std.proofs.Common.{arith, subst}
 use Rattle.std.proofs.lemmas.Grind.{common_steps}
-use Rattle.handler_plans.specs.Said.{SaysStep}
-use Rattle.handler_plans.proofs.Saying.{said_more}
-use Rattle.handler_plans.proofs.reading.plan_of.Goals as goal
+use Rattle.call_lines.specs.Said.{SaysStep}
+use Rattle.call_lines.proofs.Saying.{said_more}
+use Rattle.call_lines.proofs.reading.plan_of.Goals as goal
 
 pub loop-line-preserved : goal.loop-line-preserved
 loop-line-preserved c =

@@ -4,7 +4,7 @@ use Rattle.std.proofs.lemmas.List.{take_more}
 use Rattle.std.specs.declared.string.String.{String}
 use Rattle.lines.proofs.Growing.{zip_push}
 use Rattle.vm_types.specs.declared.steps.Step.{Step}
-use Rattle.handler_plans.specs.Said.{AreSaid, SaysStep}
+use Rattle.call_lines.specs.Said.{AreSaid, SaysStep}
 
 -- one line more, which says a step
 pub said_more : (lines : List (String Global)) (i : ℕ) (line : String Global) (steps after : List Step) (step : Step) → i < length lines → get_or lines i line ≡ line → AreSaid (take i lines) steps

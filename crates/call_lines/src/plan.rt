@@ -11,7 +11,7 @@ pub struct Plan {
 }
 
 impl Handler for Plan {
-    ghost use Rattle.handler_plans.specs.Plans.{plan_step};
+    ghost use Rattle.call_lines.specs.Plans.{plan_step};
 
     ghost meaning = { λ h. plan_step h.steps.items };
 
