@@ -1,13 +1,16 @@
 //! `Outbox`: the frames that wait to be sent, oldest first. Each is the frame of a message that can be read back.
 ghost use Rattle.std.specs.Prelude.{◌≡◌, ◌∷◌, ◌++◌, [], IfOk, OnOk, OnErr};
 ghost use Rattle.std.specs.List.{concat};
+ghost use Rattle.journal_protocol.specs.Awaiting.{awaiting_id};
 ghost use Rattle.journal_protocol.specs.Frames.{encoding, IsWhole};
+ghost use Rattle.journal_protocol.specs.Message.TheVariants as message;
 ghost use Rattle.vm_parts.specs.Outboxes.{WholeFrames, WholeStream, len_of};
 
 use bytes::Bytes;
-use journal_protocol::{Encoder, Message};
+use journal_protocol::{Encoder, Message, NotificationId};
 use std::alloc::{AllocError, Global};
 use std::marker::Model;
+use std::mem::swap;
 
 /// Frames in the order in which they were written, in one buffer.
 #[derive(Drop)]
@@ -62,6 +65,23 @@ fn append(
     stream.extend_from_slice(frame.as_slice())
 }
 
+/// As `append`, of an `AwaitingOn` on an id, or on the first of it and the other signal.
+fn append_awaiting(
+    alloc: Global,
+    id: &NotificationId,
+    other: Option<u32>,
+    frame: &mut Vec<u8>,
+    stream: &mut Vec<u8>,
+) -> Result<(), AllocError>
+    ensures ok { OnOk result (stream.new.items ≡ stream.old.items
+        ++ encoding (message.AwaitingOn (awaiting_id id.now other))) }
+    ensures whole { OnOk result (IsWhole (message.AwaitingOn (awaiting_id id.now other))) }
+    ensures err { OnErr result (stream.new.items ≡ stream.old.items) }
+{
+    Encoder::new(alloc).encode_awaiting_in(id, other, frame)?;
+    stream.extend_from_slice(frame.as_slice())
+}
+
 #[tactic(auto, using(crate::proofs::Outboxes::no_frames, crate::proofs::Outboxes::len_is))]
 impl Outbox {
     pub fn new(alloc: Global) -> Outbox
@@ -80,6 +100,21 @@ impl Outbox {
         ensures err { OnErr result (self.new ≡ self.old) }
     {
         append(alloc, message, &mut self.frame, &mut self.stream)
+    }
+
+    /// Appends the frame of an `AwaitingOn` on an id, or on the first of it and the other signal. It takes no memory for lists of ids.
+    pub fn write_awaiting(
+        &mut self,
+        alloc: Global,
+        id: &NotificationId,
+        other: Option<u32>,
+    ) -> Result<(), AllocError>
+        ensures ok { OnOk result (self.new
+            ≡ self.old ++ encoding (message.AwaitingOn (awaiting_id id.now other)) ∷ []) }
+        ensures whole { OnOk result (IsWhole (message.AwaitingOn (awaiting_id id.now other))) }
+        ensures err { OnErr result (self.new ≡ self.old) }
+    {
+        append_awaiting(alloc, id, other, &mut self.frame, &mut self.stream)
     }
 
     /// The bytes of all frames, which stay there.
@@ -105,6 +140,16 @@ impl Outbox {
         ensures whole { WholeFrames self.now }
     {
         self.stream.len()
+    }
+
+    /// Moves the bytes of all frames to `bytes`, in the place of what that held. The next frames are written to the memory that it had.
+    pub fn move_to(&mut self, bytes: &mut Vec<u8>)
+        ensures moved { bytes.new.items ≡ concat self.old }
+        ensures whole { WholeStream bytes.new.items }
+        ensures none { self.new ≡ [] }
+    {
+        bytes.clear();
+        swap(&mut self.stream, bytes);
     }
 
     /// Drops all frames. The memory stays for the next ones.
