@@ -3,6 +3,7 @@ pub mod Heading
 pub mod LaterArrivals
 pub mod Links
 pub mod Listing
+pub mod Lone
 pub mod Messages
 pub mod Moves
 pub mod Nodes

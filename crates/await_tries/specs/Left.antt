@@ -1,6 +1,6 @@
 -- What a try leaves of a tree, as contracts see it: nodes, and their children as ranges of a second
 -- list.
-use Rattle.std.specs.Prelude.{ℕ, zero, suc, List, map, length}
+use Rattle.std.specs.Prelude.{ℕ, zero, suc, List, map, length, Option, Some, None}
 use Rattle.await_trees.specs.declared.nodes.Node.{Node}
 use Rattle.await_trees.specs.declared.nodes.Label.{Label}
 use Rattle.await_trees.specs.declared.nodes.Label.TheVariants.{Leaf, Inner}
@@ -26,6 +26,11 @@ read ns kids (suc f) n = read_label (node_at ns n).label
 -- the tree that is left: that of the first node
 abbrev pub tree_left : Left → Tree
 tree_left l = read l.nodes l.kids (length l.nodes) 0
+
+-- the handle of a tree that is a leaf
+abbrev pub lone_handle : Tree → Option ℕ
+lone_handle (leaf h) = Some h
+lone_handle (node k ts) = None
 
 -- the first node represents a tree
 pub record IsTreeLeft (l : Left) : Type 0 where

@@ -1,7 +1,7 @@
 //! The handles that a tree still awaits.
 ghost use Rattle.std.specs.Prelude.{◌≡◌, IfOk};
 ghost use Rattle.await_trees.specs.Handles.{handles_of, has_leaf};
-ghost use Rattle.await_tries.specs.Left.{tree_left};
+ghost use Rattle.await_tries.specs.Left.{lone_handle, tree_left};
 
 use crate::residue::Residue;
 use crate::walk::{Row, next_node};
@@ -36,6 +36,17 @@ pub fn list_handles(alloc: Global, left: &Residue) -> Result<Vec<u32>, AllocErro
         }
     }
     Ok(handles)
+}
+
+/// The handle of what is left, if that is a leaf alone.
+#[tactic(auto, using(crate::proofs::Lone::lone_leaf, crate::proofs::Lone::lone_inner))]
+pub fn lone_handle(left: &Residue) -> Option<u32>
+    ensures { result ≡ lone_handle (tree_left left.now) }
+{
+    match left.nodes()[0].label {
+        Label::Leaf(handle) => Some(handle),
+        Label::Inner(_) => None,
+    }
 }
 
 /// Whether a leaf is left. The walk ends at the first.

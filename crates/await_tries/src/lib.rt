@@ -16,7 +16,7 @@ pub mod using;
 pub mod walk;
 pub mod wire_future;
 
-pub use handles::{has_leaf, list_handles};
+pub use handles::{has_leaf, list_handles, lone_handle};
 pub use pairs::uses_until_either;
 pub use residue::{Residue, Resolution};
 pub use tries::try_future;

@@ -20,6 +20,7 @@ use Rattle.journal_protocol.specs.Message.{Message}
 use Rattle.journal_protocol.specs.Message.TheVariants as message
 use Rattle.journal_protocol.specs.Frames.{encoding}
 use Rattle.journal_protocol.specs.NotificationId.{NotificationId}
+use Rattle.journal_protocol.specs.NotificationId.TheVariants.{CompletionId, SignalId, SignalName}
 use Rattle.journal_protocol.specs.NotificationResult.{NotificationResult}
 use Rattle.vm_runs.specs.Firsts.{with_first}
 use Rattle.vm_runs.specs.Pending.{handle_of, has_handle, is_executing, is_executing_in, may_execute, run_started}
@@ -72,6 +73,22 @@ said_waiting version policy executing id left =
     if says_so version policy executing left
     then message.AwaitingOn (record { future = sent id left; executing_side_effects = false }) ∷
     [] else []
+
+-- an await has said that it waits for a tree, by the ids that its handles stand for
+abbrev pub awaiting_said : Tree → Machine → Machine
+awaiting_said left v =
+    record v {
+      output = v.output
+          ++ encoding (message.AwaitingOn
+          (record { future = sent (ids v.results) left; executing_side_effects = false })) ∷ [];
+    }
+
+-- the signal that an id is by number
+abbrev pub signal_in : Option NotificationId → Option ℕ
+signal_in None = None
+signal_in (Some (CompletionId id)) = None
+signal_in (Some (SignalId id)) = Some id
+signal_in (Some (SignalName name)) = None
 
 -- it waits, and has said what for where it says so
 abbrev pub waiting : Tree → Machine → Machine

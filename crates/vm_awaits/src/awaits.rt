@@ -7,6 +7,7 @@ ghost use Rattle.await_trees.specs.Tree.{leaf, tree_of};
 ghost use Rattle.await_trees.specs.Wires.{sent};
 ghost use Rattle.await_tries.specs.Left.{tree_left};
 ghost use Rattle.await_tries.specs.Message.{ids};
+ghost use Rattle.await_tries.specs.Pairs.{first_of_two};
 ghost use Rattle.journal_protocol.specs.Frames.{encoding};
 ghost use Rattle.vm_runs.specs.Pending.{handle_of, is_executing, may_execute};
 ghost use Rattle.vm_runs.specs.Settling.{run_as_related};
@@ -16,19 +17,19 @@ ghost use Rattle.vm_types.specs.Options.{ends_awaits};
 ghost use Rattle.vm_parts.specs.Ephemerals.{any_in_flight};
 ghost use Rattle.vm_parts.specs.Tracked.{id_of_result, unresolved_handles};
 ghost use Rattle.vm_machine.specs.Phases.{is_replaying};
-ghost use Rattle.vm_awaits.specs.Awaits.{Awaits, Gathers, ReadsId, Tries, TriesOrCancels, allows, executed, has_woken, is_cancelled, is_first_of_none, last_run, or_cancelled, pending_on, result_at, says_so, waiting, waits_by};
+ghost use Rattle.vm_awaits.specs.Awaits.{Awaits, Gathers, ReadsId, Tries, TriesOrCancels, allows, awaiting_said, executed, has_woken, is_cancelled, is_first_of_none, last_run, or_cancelled, pending_on, result_at, says_so, signal_in, waiting, waits_by};
 ghost use Rattle.vm_machine.specs.Proposals.{run_at};
 ghost use Rattle.vm_awaits.specs.Cancels.{cancel_taken};
 
 use crate::awaited::Awaited;
 use await_trees::{CANCEL_NOTIFICATION_HANDLE, NotificationHandle, UnresolvedFuture};
 use await_tries::{
-    Residue, Resolution, future_of, future_of_two, has_leaf, list_handles, try_future, use_all,
-    use_first, uses_until_either,
+    Residue, Resolution, future_of, future_of_two, has_leaf, list_handles, lone_handle, try_future,
+    use_all, use_first, uses_until_either,
 };
 use journal_protocol::{
-    AwaitingOn, Error, Message, MessageType, NamedFault, NotificationResult, RelatedCommand,
-    Suspension, Version,
+    AwaitingOn, Error, Future, Message, MessageType, NamedFault, NotificationId,
+    NotificationResult, RelatedCommand, Suspension, Version,
 };
 use plain::{Items, Text, copy_of};
 use std::alloc::{AllocError, Global};
@@ -112,6 +113,37 @@ fn says_so(machine: &Machine, left: &Residue) -> Result<bool, AllocError>
     has_leaf(machine.alloc, left)
 }
 
+/// Says that an await waits for a future.
+fn say(machine: &mut Machine, future: Future) -> Result<(), AllocError>
+    ensures ok { OnOk result (machine.new
+        ≡ record machine.old {
+          output = machine.old.output
+              ++ encoding (message.AwaitingOn
+              (record { future = future; executing_side_effects = false })) ∷ [];
+        }) }
+    ensures err { OnErr result (machine.new ≡ machine.old) }
+{
+    let message = Message::AwaitingOn(AwaitingOn {
+        future,
+        executing_side_effects: false,
+    });
+    machine.output.write(machine.alloc, &message)
+}
+
+/// Says that an await waits for what is left of its tree. That of a leaf takes no memory for lists.
+fn say_left(machine: &mut Machine, left: &Residue) -> Result<(), AllocError>
+    ensures ok { OnOk result (machine.new ≡ awaiting_said (tree_left left.now) machine.old) }
+    ensures err { OnErr result (machine.new ≡ machine.old) }
+{
+    if let Some(handle) = lone_handle(left) {
+        if let Some(id) = machine.results.find(handle) {
+            return machine.output.write_awaiting(machine.alloc, id, None);
+        }
+    }
+    let future = future_of(machine.alloc, &machine.results, left)?;
+    say(machine, future)
+}
+
 /// An await waits for what is left of its tree, and says so.
 fn wait_on(machine: &mut Machine, left: &Residue) -> Result<(), AllocError>
     ensures ok { OnOk result (machine.new ≡ waiting (tree_left left.now) machine.old) }
@@ -120,12 +152,7 @@ fn wait_on(machine: &mut Machine, left: &Residue) -> Result<(), AllocError>
     if !says_so(machine, left)? {
         return Ok(());
     }
-    let future = future_of(machine.alloc, &machine.results, left)?;
-    let message = Message::AwaitingOn(AwaitingOn {
-        future,
-        executing_side_effects: false,
-    });
-    machine.output.write(machine.alloc, &message)
+    say_left(machine, left)
 }
 
 /// The pending run of a handle that wasn't taken, as an error that relates to its command shows it.
@@ -219,6 +246,32 @@ fn pend_on(machine: &mut Machine, left: &Residue) -> Result<Awaited, Fault>
     wait_or_suspend(machine, left, executing)
 }
 
+/// The signal that a handle stands for, if it does for one by number.
+fn signal_of(machine: &Machine, handle: u32) -> Option<u32>
+    ensures { result ≡ signal_in (ids machine.now.results handle) }
+{
+    match machine.results.find(handle) {
+        Some(NotificationId::SignalId(signal)) => Some(*signal),
+        _ => None,
+    }
+}
+
+/// Says that an await waits for the first of two handles. That of an id and a signal takes no memory for lists.
+fn say_two(machine: &mut Machine, one: u32, other: u32) -> Result<(), AllocError>
+    ensures ok { OnOk result (machine.new ≡ awaiting_said (first_of_two one other) machine.old) }
+    ensures err { OnErr result (machine.new ≡ machine.old) }
+{
+    if let Some(signal) = signal_of(machine, other) {
+        if let Some(id) = machine.results.find(one) {
+            return machine
+                .output
+                .write_awaiting(machine.alloc, id, Some(signal));
+        }
+    }
+    let future = future_of_two(machine.alloc, &machine.results, one, other)?;
+    say(machine, future)
+}
+
 /// An await of a handle, or of the cancel signal, waits, and says so: a leaf is left in any case.
 fn wait_on_either(machine: &mut Machine, handle: u32) -> Result<(), AllocError>
     ensures ok { OnOk result (machine.new ≡ waiting (or_cancelled (leaf handle)) machine.old) }
@@ -228,13 +281,7 @@ fn wait_on_either(machine: &mut Machine, handle: u32) -> Result<(), AllocError>
     if machine.version < Version::V7 || !allows(machine.options.awaiting_on_policy, executing) {
         return Ok(());
     }
-    let cancel = CANCEL_NOTIFICATION_HANDLE.0;
-    let future = future_of_two(machine.alloc, &machine.results, handle, cancel)?;
-    let message = Message::AwaitingOn(AwaitingOn {
-        future,
-        executing_side_effects: false,
-    });
-    machine.output.write(machine.alloc, &message)
+    say_two(machine, handle, CANCEL_NOTIFICATION_HANDLE.0)
 }
 
 /// As `pend_on`, of a handle or the cancel signal, in Processing and with open input.
