@@ -245,6 +245,18 @@ palqytun_told palqytun_take_output(palqytun_vm *vm, uint8_t *out, size_t out_len
     return made;
 }
 
+uint32_t palqytun_lend_output(palqytun_vm *vm, palqytun_bytes *output)
+{
+    uint32_t status = PALQYTUN_DONE;
+    lend_out(&status, output);
+    palqytun_held *held = handle_take(&status, vm, A_VM);
+    if (status != PALQYTUN_DONE)
+        return status;
+    uint32_t made = proved_lend_output(held, output);
+    handle_give(held);
+    return made;
+}
+
 palqytun_told palqytun_line(palqytun_vm *vm, const uint8_t *line, size_t line_len)
 {
     uint32_t status = PALQYTUN_DONE;

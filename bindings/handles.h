@@ -35,6 +35,8 @@ const void *lend_items(uint32_t *status, const void *at, size_t len, size_t size
 /* Room to write to. NULL has no room. */
 uint8_t *lend_room(uint32_t *status, uint8_t *at, size_t len);
 void lend_bytes(uint32_t *status, palqytun_bytes *bytes);
+/* Where a call writes what it lends. It is no bytes until the call is made. */
+void lend_out(uint32_t *status, palqytun_bytes *out);
 void lend_optional(uint32_t *status, palqytun_optional *optional);
 
 /* Copies of structs, with what they point to lent. */

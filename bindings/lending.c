@@ -37,6 +37,14 @@ void lend_bytes(uint32_t *status, palqytun_bytes *bytes)
     bytes->at = lend_items(status, bytes->at, bytes->len, 1);
 }
 
+void lend_out(uint32_t *status, palqytun_bytes *out)
+{
+    if (out != NULL)
+        *out = (palqytun_bytes){NULL, 0};
+    else if (*status == PALQYTUN_DONE)
+        *status = PALQYTUN_BAD_POINTER;
+}
+
 /* A flag, which is given as any byte. */
 static bool flag(const bool *given)
 {

@@ -76,6 +76,7 @@ static palqytun_journal *opened_journal(void)
 static void handles(void)
 {
     uint8_t out[8] = {0};
+    palqytun_bytes lent = null_of_1;
     palqytun_vm *vm = opened(), *closed = opened();
     palqytun_journal *journal = opened_journal(), *ended = opened_journal();
     gets("close", palqytun_close(closed), PALQYTUN_DONE);
@@ -106,11 +107,13 @@ static void handles(void)
         gets(bad[i].what, palqytun_answer(it, out, sizeof out).status, wanted);
         gets(bad[i].what, palqytun_feed(it, begun, sizeof begun), wanted);
         gets(bad[i].what, palqytun_take_output(it, out, sizeof out).status, wanted);
+        gets(bad[i].what, palqytun_lend_output(it, &lent), wanted);
         gets(bad[i].what, palqytun_part(it, 0, out, sizeof out).status, wanted);
         gets(bad[i].what, palqytun_sleep(it, bytes("n"), 1).status, wanted);
         gets(bad[i].what, palqytun_make(it, (palqytun_optional){0}, NULL).status, wanted);
         gets(bad[i].what, palqytun_close(it), wanted);
     }
+    gets("nothing is lent", lent.at == NULL && lent.len == 0, true);
     palqytun_journal *foreign[] = {NULL, ended, (palqytun_journal *)vm, (palqytun_journal *)(void *)&out, (palqytun_journal *)UINTPTR_MAX};
     uint32_t statuses[] = {PALQYTUN_NO_JOURNAL, PALQYTUN_NO_JOURNAL, PALQYTUN_BAD_HANDLE, PALQYTUN_BAD_HANDLE, PALQYTUN_BAD_HANDLE};
     for (size_t i = 0; i < 5; i++) {
@@ -160,6 +163,7 @@ static void pointers(void)
     gets("room at NULL", palqytun_answer(vm, NULL, 1).status, PALQYTUN_BAD_POINTER);
     gets("room at NULL", palqytun_take_output(vm, NULL, 1).status, PALQYTUN_BAD_POINTER);
     gets("room at NULL", palqytun_part(vm, 0, NULL, 1).status, PALQYTUN_BAD_POINTER);
+    gets("nowhere to lend to", palqytun_lend_output(vm, NULL), PALQYTUN_BAD_POINTER);
     gets("a name at NULL", palqytun_sleep(vm, null_of_1, 1).status, PALQYTUN_BAD_POINTER);
     gets("an optional at NULL", palqytun_make(vm, (palqytun_optional){true, null_of_1}, NULL).status, PALQYTUN_BAD_POINTER);
     gets("nodes at NULL", palqytun_await_tree(vm, NULL, 1).status, PALQYTUN_BAD_POINTER);
@@ -237,9 +241,100 @@ static void values(void)
     palqytun_journal_close(journal);
 }
 
-/* ---- races */
+/* ---- output that is lent */
 
 static palqytun_vm *shared;
+
+/* Whether the bytes that were lent are these. */
+static bool are(palqytun_bytes lent, const uint8_t *wanted, size_t len)
+{
+    return lent.len == len && memcmp(lent.at, wanted, len) == 0;
+}
+
+static void write_some(palqytun_vm *vm)
+{
+    palqytun_signal(vm, bytes("go"));
+    palqytun_sleep(vm, bytes("n"), 1);
+    palqytun_state_set(vm, bytes("k"), bytes("v"), nothing, false);
+}
+
+/* Output is lent as it would have been copied, and each other call leaves it where it lies. */
+static void lends(void)
+{
+    uint8_t out[4096];
+    palqytun_vm *vm = opened(), *twin = opened();
+    palqytun_bytes lent, more;
+    write_some(vm);
+    write_some(twin);
+    palqytun_told told = palqytun_take_output(twin, out, sizeof out);
+    gets("a loan", palqytun_lend_output(vm, &lent), PALQYTUN_DONE);
+    gets("the bytes of a copy", told.len > 0 && are(lent, out, told.len), true);
+    gets("no output is left", palqytun_take_output(vm, NULL, 0).status, PALQYTUN_DONE);
+    gets("a refused loan", palqytun_lend_output(vm, NULL), PALQYTUN_BAD_POINTER);
+    palqytun_state(vm), palqytun_line(vm, (const uint8_t *)"state", 5), palqytun_answer(vm, NULL, 0), palqytun_feed(vm, NULL, 0);
+    palqytun_sleep(vm, bytes("another"), 2), palqytun_await(vm, 17), palqytun_part(vm, 0, NULL, 0), palqytun_take(vm, 17);
+    gets("output behind a loan", palqytun_take_output(vm, NULL, 0).status, PALQYTUN_NO_ROOM);
+    palqytun_close_input(vm), palqytun_end(vm);
+    gets("another VM in its place", palqytun_make(vm, (palqytun_optional){true, bytes("application/vnd.restate.invocation.v7")}, NULL).status, PALQYTUN_DONE);
+    gets("the loan stays", are(lent, out, told.len), true);
+    gets("no output", palqytun_lend_output(vm, &more), PALQYTUN_DONE);
+    gets("none is lent", more.len == 0, true);
+    gets("none again", palqytun_lend_output(vm, &more), PALQYTUN_DONE);
+    palqytun_close(vm);
+    palqytun_close(twin);
+    more = lent;
+    gets("a loan of a closed session", palqytun_lend_output(vm, &more), PALQYTUN_NO_SESSION);
+    gets("nothing of a closed session", more.at == NULL && more.len == 0, true);
+}
+
+/* The memory of a long loan is given back, and a refused loan leaves the one before. */
+static void lends_long(void)
+{
+    palqytun_vm *vm = opened();
+    palqytun_bytes lent, more, large = {calloc(1, 100000), 100000};
+    if (large.at == NULL)
+        exit(2);
+    for (int i = 0; i < 3; i++) {
+        palqytun_state_set(vm, bytes("k"), large, nothing, false);
+        gets("a long loan", palqytun_lend_output(vm, &lent), PALQYTUN_DONE);
+        gets("all of it", lent.len > large.len && memcmp(lent.at + lent.len - large.len, large.at, large.len) == 0, true);
+    }
+    free((void *)large.at);
+    palqytun_make(vm, (palqytun_optional){false, nothing}, NULL);
+    gets("no VM", palqytun_lend_output(vm, &more), PALQYTUN_NO_VM);
+    gets("a loan outlives its VM", more.at == NULL && lent.at[lent.len - 1] == 0, true);
+    palqytun_close(vm);
+}
+
+static void *lend_shared(void *lent)
+{
+    gets("a loan on another thread", palqytun_lend_output(shared, lent), PALQYTUN_DONE);
+    return NULL;
+}
+
+/* What another thread or a later call gets while output is lent: it is made, no status tells of the loan that it ends, and the memory of that has
+   other bytes then. */
+static void ends_loans(void)
+{
+    palqytun_bytes first, second, third;
+    pthread_t thread;
+    shared = opened();
+    write_some(shared);
+    palqytun_lend_output(shared, &first);
+    palqytun_sleep(shared, bytes("n"), 1);
+    if (pthread_create(&thread, NULL, lend_shared, &second) != 0)
+        exit(2);
+    pthread_join(thread, NULL);
+    gets("its own bytes", second.len > 0 && second.len < first.len && second.at != first.at, true);
+    palqytun_sleep(shared, bytes("m"), 1);
+    gets("a later loan", palqytun_lend_output(shared, &third), PALQYTUN_DONE);
+    gets("at the place of one that ended", third.at == first.at && third.len == second.len, true);
+    gets("other bytes", memcmp(third.at, second.at, third.len) != 0, true);
+    palqytun_close(shared);
+}
+
+/* ---- races */
+
 static palqytun_journal *shared_journal;
 
 static uint32_t do_state(void) { return palqytun_state(shared).status; }
@@ -261,6 +356,11 @@ static uint32_t do_take_output(void)
     uint8_t out[4096];
     return palqytun_take_output(shared, out, sizeof out).status;
 }
+static uint32_t do_lend_output(void)
+{
+    palqytun_bytes lent;
+    return palqytun_lend_output(shared, &lent);
+}
 static uint32_t do_signal(void) { return palqytun_signal(shared, bytes("go")).status; }
 static uint32_t do_clear(void) { return palqytun_state_clear(shared, bytes("k"), nothing).status; }
 static uint32_t do_await(void) { return palqytun_await(shared, 17).status; }
@@ -271,7 +371,7 @@ static uint32_t do_keep(void) { return palqytun_journal_keep(shared_journal); }
 static uint32_t do_undo(void) { return palqytun_journal_undo(shared_journal); }
 static uint32_t do_foreign(void) { return palqytun_journal_entries((palqytun_journal *)shared).status; }
 
-static uint32_t (*const calls[])(void) = {do_state, do_completed, do_line, do_answer, do_part, do_feed, do_take_output, do_signal, do_clear,
+static uint32_t (*const calls[])(void) = {do_state, do_completed, do_line, do_answer, do_part, do_feed, do_take_output, do_lend_output, do_signal, do_clear,
     do_await, do_take, do_entries, do_row, do_keep, do_undo, do_foreign};
 enum { CALLS = sizeof calls / sizeof *calls, MOST_THREADS = 8 };
 
@@ -396,6 +496,9 @@ static void *misuses(void *it)
     handles();
     pointers();
     values();
+    lends();
+    lends_long();
+    ends_loans();
     return NULL;
 }
 

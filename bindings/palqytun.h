@@ -6,7 +6,8 @@
 
    Memory. A session is a block of the heap and what it refers to, by the program's malloc, realloc and free, which must belong
    together, and give blocks aligned as C asks. The library keeps nothing that it is passed: lines and bytes are copied, and
-   what it writes goes to the caller's buffers alone. Out of memory is a status, and never ends the program.
+   what it writes goes to the caller's buffers alone. One call lends the caller memory, palqytun_lend_output. Out of memory is a status, and
+   never ends the program.
 
    Handles. A palqytun_vm * is a handle: a number in the form of a pointer, which palqytun_open gives and palqytun_close ends. It may be
    copied, and nothing is read where it seems to point to. With a handle that is NULL, closed, a journal's, or no handle at all, a call returns
@@ -16,8 +17,8 @@
    PALQYTUN_BAD_POINTER. The buffers of one call don't overlap. A flag is false if it is 0.
 
    Threads. Several sessions may be used at once, and each from any thread. A session has one call at a time: a second call at the same time
-   returns PALQYTUN_BUSY, and does nothing. So a race does no harm; with a lock each call is made. Make no call from a
-   signal handler, or in the forked child of a process with threads. No call blocks.
+   returns PALQYTUN_BUSY, and does nothing. So a race does no harm, unless what palqytun_lend_output lent is read in it; with a lock each call
+   is made. Make no call from a signal handler, or in the forked child of a process with threads. No call blocks.
 
    Stack. A call takes at most PALQYTUN_STACK bytes of it. */
 #ifndef PALQYTUN_H
@@ -38,7 +39,7 @@ extern "C" {
 /* How much stack a call takes at most, in bytes. */
 #define PALQYTUN_STACK 32768
 
-/* A session: at most one VM, the reply to the last line, and the reply to the last typed call. */
+/* A session: at most one VM, the reply to the last line, the reply to the last typed call, and the output that was lent last. */
 typedef struct palqytun_vm palqytun_vm;
 
 /* How a call ended. Calls of a journal and calls on frames have further numbers, below; each number has one meaning. */
@@ -96,7 +97,7 @@ uint32_t palqytun_feed(palqytun_vm *vm, const uint8_t *bytes, size_t bytes_len);
 
 /* Moves all bytes that wait to be sent to the front of out, and returns how many there are: the line `output` without hex digits.
    They are whole frames. PALQYTUN_NO_ROOM: len is the room that they need; so a call with out_len 0 asks for it. The memory of more than
-   64 KiB is given back; else it stays for the next ones.
+   64 KiB is given back; else it stays for the next ones. palqytun_lend_output, below, gives the same bytes without a copy.
    PALQYTUN_NO_MEMORY: they still wait. */
 palqytun_told palqytun_take_output(palqytun_vm *vm, uint8_t *out, size_t out_len);
 
@@ -434,6 +435,18 @@ typedef struct {
 
 /* Writes a part of the last reply to the front of out, and returns how long it is. PALQYTUN_NO_ROOM: len is the length that it needs. */
 palqytun_told palqytun_part(palqytun_vm *vm, size_t at, uint8_t *out, size_t out_len);
+
+/* Lends all bytes that wait to be sent, where palqytun_take_output copies them: they move out of the VM to a buffer of the session, and
+   *output says where they lie and how many they are. They are whole frames.
+
+   Read them before the session's next palqytun_lend_output or its palqytun_close: each of the two ends the loan, and then there may be other
+   bytes at that place, or no memory. The other calls leave the bytes as they are and where they are. A call returns at once, also while another
+   thread reads what was lent: no status tells of that, so let a lock guard the loan too.
+
+   If no byte waits, len is 0, and what was lent before isn't any more. The memory of more than 64 KiB is given back by the next
+   palqytun_lend_output; else the next frames are written to it. No call of this takes memory. If the status isn't PALQYTUN_DONE, *output is
+   NULL and 0, and what was lent before stays lent. */
+uint32_t palqytun_lend_output(palqytun_vm *vm, palqytun_bytes *output);
 
 /* Makes a VM, which replaces the session's last one, for the version that the content type names. The reply is that version, or the error
    that says why there is none. */

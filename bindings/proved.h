@@ -29,6 +29,7 @@ uint32_t proved_new(palqytun_held *vm);
 palqytun_told proved_answer(palqytun_held *vm, uint8_t *out, size_t out_len);
 uint32_t proved_feed(palqytun_held *vm, const uint8_t *bytes, size_t bytes_len);
 palqytun_told proved_take_output(palqytun_held *vm, uint8_t *out, size_t out_len);
+uint32_t proved_lend_output(palqytun_held *vm, palqytun_bytes *output);
 void proved_free(palqytun_held *vm);
 palqytun_told proved_line(palqytun_held *vm, const uint8_t *line, size_t line_len);
 palqytun_told proved_frame_line(const uint8_t *frame, size_t frame_len, uint8_t *out, size_t out_len);

@@ -27,6 +27,11 @@ def _is_handle(it: Parameter) -> bool:
     return it.kind == "reference" and _plain(it.type) in KINDS
 
 
+def _is_written(it: Parameter) -> bool:
+    """Whether the call writes a struct there."""
+    return it.kind == "reference" and it.type.startswith("&mut") and not _is_handle(it)
+
+
 def _declared(it: Parameter, handle: str) -> list[str]:
     """The parameters in C that a parameter is."""
     if _is_handle(it):
@@ -68,6 +73,8 @@ def _lent(it: Parameter) -> Iterator[str]:
         yield f"{it.name} = lend_room(&status, {it.name}, {it.name}_len);"
     elif it.kind == "slice":
         yield f"{it.name} = lend_items(&status, {it.name}, {it.name}_len, sizeof *{it.name});"
+    elif _is_written(it):
+        yield f"lend_out(&status, {it.name});"
     elif it.kind == "struct":
         yield f"lend_{STRUCTS[plain].removeprefix(PUBLIC)}(&status, &{it.name});"
     elif it.kind == "reference" and plain not in KINDS:
@@ -83,7 +90,7 @@ def _given(it: Parameter) -> list[str]:
         return ["held"]
     if it.kind == "slice":
         return [it.name, f"{it.name}_len"]
-    return [f"&lent_{it.name}" if it.kind == "reference" else it.name]
+    return [f"&lent_{it.name}" if it.kind == "reference" and not _is_written(it) else it.name]
 
 
 def _function(it: Export) -> str:
@@ -95,7 +102,7 @@ def _function(it: Export) -> str:
     if has_arrays:
         lines.append("lent_arrays arrays = {0};")
     for one in it.parameters:
-        if one.kind == "reference" and not _is_handle(one):
+        if one.kind == "reference" and not _is_handle(one) and not _is_written(one):
             lines.append(f"{STRUCTS[_plain(one.type)]} lent_{one.name} = {{0}};")
     lines += [line for one in it.parameters for line in _lent(one)]
     if handle:

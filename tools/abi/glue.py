@@ -19,6 +19,8 @@ PREFIX = "palqytun_"
 NUMBERS = {"bool": "bool", "uint16_t": "u16", "uint32_t": "u32", "uint64_t": "u64", "size_t": "size"}
 OWN = frozenset({"open", "journal_open", "close", "journal_close", "abi", "version", "build", "is_proved"})
 """What a binding has in its own way."""
+LENDS = frozenset({"lend_output"})
+"""What lends the caller memory, of which a value of the language would be a copy."""
 LINES = frozenset({"line", "answer"})
 
 
@@ -27,14 +29,14 @@ class Folder:
     """How a call is made, and which calls `calls.c` lacks."""
 
     how: str = "{call}"
-    lacks: frozenset[str] = OWN | LINES
+    lacks: frozenset[str] = OWN | LENDS | LINES
 
 
 FOLDERS = {
     "bindings/java/src/main/c": Folder(),
     "bindings/node/src": Folder(),
     "bindings/ruby/ext/palqytun": Folder(),
-    "python/extension": Folder("UNLOCKED({size}, {call})", OWN),
+    "python/extension": Folder("UNLOCKED({size}, {call})", OWN | LENDS),
 }
 GIVEN = ("options", "target", "value", "error", "command", "invocation", "policy")
 OUT = [("uint8_t *", "out"), ("size_t", "out_len"), ("palqytun_told *", "returned")]

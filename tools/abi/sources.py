@@ -16,6 +16,7 @@ STRUCTS = {
     "Told": "palqytun_told",
     "Replied": "palqytun_replied",
     "Lent": "palqytun_bytes",
+    "Outgoing": "palqytun_bytes",
     "MayLend": "palqytun_optional",
     "Pair": "palqytun_pair",
     "GivenValue": "palqytun_value",
@@ -53,6 +54,8 @@ def c_types(ty: str) -> list[str]:
         return [f"{'' if found[1] else 'const '}{item} *"]
     if ty == "*mut u8":
         return ["void *"]
+    if ty == "*const u8":
+        return ["const uint8_t *"]
     named = NUMBERS.get(ty) or STRUCTS.get(ty)
     if named is None:
         raise Refused(f"`{ty}` is no type that crosses to C; name it in tools/abi/sources.py")

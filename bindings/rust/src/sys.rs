@@ -830,6 +830,7 @@ functions! {
     take_output = "palqytun_take_output\0": (Handle, *mut u8, usize) -> Told;
     close = "palqytun_close\0": (Handle) -> u32;
     part = "palqytun_part\0": (Handle, usize, *mut u8, usize) -> Told;
+    lend_output = "palqytun_lend_output\0": (Handle, *mut Bytes) -> u32;
     make = "palqytun_make\0": (Handle, Optional, *const Options) -> Replied;
     is_ready = "palqytun_is_ready\0": (Handle) -> Replied;
     head = "palqytun_head\0": (Handle) -> Replied;

@@ -12,7 +12,7 @@ use crate::values::{
 };
 use std::cell::Cell;
 use std::marker::PhantomData;
-use std::ptr;
+use std::{ptr, slice};
 
 /// One VM, for one attempt of an invocation. Dropping it frees its memory.
 ///
@@ -122,6 +122,26 @@ impl Vm {
         let (take, handle) = (self.library.functions.take_output, self.handle);
         // SAFETY: the room is valid for its length.
         written(|at, len| unsafe { take(handle, at, len) })
+    }
+
+    /// Takes all bytes that wait to be sent, as [`Vm::take_output`] does, and lends them where they lie: none is copied. They are read before the
+    /// next call of this VM:
+    ///
+    /// ```compile_fail
+    /// let mut vm = palqytun::Vm::new("application/vnd.restate.invocation.v7", &Default::default()).unwrap();
+    /// let output = vm.lend_output().unwrap();
+    /// vm.notify_input(&[]).unwrap();
+    /// assert!(output.is_empty());
+    /// ```
+    pub fn lend_output(&mut self) -> Result<&[u8]> {
+        let mut lent = sys::Bytes { at: ptr::null(), len: 0 };
+        // SAFETY: the handle is that of this VM, and there is room for what is written.
+        done(unsafe { (self.library.functions.lend_output)(self.handle, &mut lent) })?;
+        if lent.len == 0 {
+            return Ok(&[]);
+        }
+        // SAFETY: the bytes stay until the next `lend_output` or the drop, and `self` is borrowed for as long as they are.
+        Ok(unsafe { slice::from_raw_parts(lent.at, lent.len) })
     }
 
     /// Whether the handler may begin: all known entries were fed.

@@ -47,6 +47,20 @@ fn threads_have_vms_of_their_own() {
 }
 
 #[test]
+fn output_is_lent_as_it_is_taken() {
+    let (mut one, mut other) = (begun(), begun());
+    let long = vec![7; 100_000];
+    for value in [&b"value"[..], &long, b"", &long] {
+        for vm in [&mut one, &mut other] {
+            vm.sys_state_set("key", value, "", PayloadOptions::STABLE).unwrap();
+        }
+        assert_eq!(one.lend_output().unwrap(), other.take_output().unwrap());
+        assert_eq!(one.lend_output(), Ok(&[][..]));
+        assert_eq!(one.take_output(), Ok(vec![]));
+    }
+}
+
+#[test]
 fn a_handle_of_another_vm_stands_for_nothing() {
     let (mut one, mut other) = (begun(), begun());
     let handles: Vec<_> = (0..5).map(|_| one.create_signal_handle("go").unwrap()).collect();

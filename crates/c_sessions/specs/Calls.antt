@@ -49,21 +49,22 @@ OnVm does told (Some old) (Some new) last kept = IsCalled does told old new last
 OnVm does told None None last kept = (told ≡ kept_told status.NoVm) × (kept ≡ last)
 OnVm does told old new last kept = ⊥
 
--- A call is made of the VM of the session that there is. The last answer to a line stays.
+-- A call is made of the VM of the session that there is. The last answer to a line stays, and so
+-- does the output that C was lent, where it lies.
 abbrev pub CalledFromC : (Result Reply Status → View → View → Type 0) → Replied → Option Session
     → Option Session → Type 0
 CalledFromC does told (Some old) (Some new) = OnVm does told old.vm new.vm old.reply new.reply
-    × (new.answer ≡ old.answer)
+    × (new.answer ≡ old.answer) × (new.lent ≡ old.lent)
 CalledFromC does told None None = told ≡ kept_told status.NoSession
 CalledFromC does told old new = ⊥
 
 -- A VM is put into the session that there is, in the place of the last. If there is none, C gets
--- the reason. The last answer to a line stays.
+-- the reason. The last answer to a line stays, and so does the output that C was lent.
 abbrev pub MadeFromC : Global → VMOptions → Result Version Error → Replied → Option Session
     → Option Session → Type 0
 MadeFromC alloc options wanted told (Some old) (Some new) =
     VmIsMade alloc options wanted new.reply new.vm × (told ≡ summary new.reply)
-    × (new.answer ≡ old.answer)
+    × (new.answer ≡ old.answer) × (new.lent ≡ old.lent)
 MadeFromC alloc options wanted told None None = told ≡ kept_told status.NoSession
 MadeFromC alloc options wanted told old new = ⊥
 

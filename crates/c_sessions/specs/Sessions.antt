@@ -1,18 +1,21 @@
 -- What a call from C does to the session that it is given.
 use Rattle.std.specs.Prelude.{◌≡◌, ◌⊎◌, ◌<◌, ◌++◌, ℕ, List, [], length, drop, Option, Some, None, Ok}
 use Rattle.std.specs.List.{concat}
+use Rattle.std.specs.Vec.{vec_ptr}
+use Rattle.std.proofs.Common.{Global, Vec}
 use Rattle.vm_parts.specs.Outboxes.{len_of}
 use Rattle.invocation_vm.specs.declared.core_vm.CoreVM.{CoreVM}
 use Rattle.invocation_vm.specs.Seen.{seen}
 use Rattle.invocation_vm.specs.Views.{StarvesAmong, TakesOutput, after_input, messages_in_bytes}
 use Rattle.vm_types.specs.declared.reply.Reply.TheVariants as reply
+use Rattle.c_sessions.specs.declared.outgoing.Outgoing.{Outgoing}
 use Rattle.c_sessions.specs.declared.session.Session.{Session}
 use Rattle.c_values.specs.declared.status.Status.{Status}
 use Rattle.c_values.specs.declared.status.Status.TheVariants as status
 
--- no VM, no answer and no reply
+-- no VM, no answer, no reply, and nothing is lent
 abbrev pub IsEmpty : Session → Type 0
-IsEmpty s = (s.vm ≡ None) × (s.answer ≡ []) × (s.reply ≡ reply.Nothing)
+IsEmpty s = (s.vm ≡ None) × (s.answer ≡ []) × (s.reply ≡ reply.Nothing) × (s.lent.items ≡ [])
 
 -- a session was made, and it is empty; or no memory was found, and there is none
 abbrev pub IsNewSession : Status → Option Session → Type 0
@@ -43,7 +46,7 @@ Fed bytes told old new = ⊥
 abbrev pub InputFed : List ℕ → Status → Option Session → Option Session → Type 0
 InputFed bytes status.NoSession None None = Unit {0}
 InputFed bytes told (Some old) (Some new) = Fed bytes told old.vm new.vm × (new.answer ≡ old.answer)
-    × (new.reply ≡ old.reply)
+    × (new.reply ≡ old.reply) × (new.lent ≡ old.lent)
 InputFed bytes told old new = ⊥
 
 -- The output of a VM is taken, and written to the front of the room for it, if there is so much;
@@ -65,5 +68,31 @@ Drained told len before after old new = ⊥
 abbrev pub OutputTaken : Status → ℕ → List ℕ → List ℕ → Option Session → Option Session → Type 0
 OutputTaken status.NoSession len before after None None = (len ≡ 0) × (after ≡ before)
 OutputTaken told len before after (Some old) (Some new) = Drained told len before after old.vm
-    new.vm × (new.answer ≡ old.answer) × (new.reply ≡ old.reply)
+    new.vm × (new.answer ≡ old.answer) × (new.reply ≡ old.reply) × (new.lent ≡ old.lent)
 OutputTaken told len before after old new = ⊥
+
+-- ---- output that is lent
+
+-- where a buffer lies, and how many bytes it has
+abbrev pub outgoing_of : Vec ℕ Global → Outgoing
+outgoing_of buffer = record { at = vec_ptr buffer; len = length buffer.items }
+
+-- The output of a VM moves to a buffer, instead of what that held.
+abbrev pub Lends : Status → Option CoreVM → Option CoreVM → Vec ℕ Global → Vec ℕ Global → Type 0
+Lends status.Done (Some old) (Some new) before after =
+    TakesOutput (Ok after.items) (seen old) (seen new)
+Lends status.NoVm None None before after = after ≡ before
+Lends told old new before after = ⊥
+
+-- C gets where the buffer lies, or nothing.
+abbrev pub IsLentAt : Status → Vec ℕ Global → Outgoing → Outgoing → Type 0
+IsLentAt status.Done buffer before after = after ≡ outgoing_of buffer
+IsLentAt told buffer before after = after ≡ before
+
+-- The output of the VM of the session that there is moves to a buffer of the session, and C gets
+-- where that lies. Each other call leaves the buffer as it is, and where it is.
+abbrev pub OutputLent : Status → Outgoing → Outgoing → Option Session → Option Session → Type 0
+OutputLent status.NoSession before after None None = after ≡ before
+OutputLent told before after (Some old) (Some new) = Lends told old.vm new.vm old.lent new.lent
+    × IsLentAt told new.lent before after × (new.answer ≡ old.answer) × (new.reply ≡ old.reply)
+OutputLent told before after old new = ⊥

@@ -1,9 +1,10 @@
 //! What each call from C does: bytes go in and come out as they are, and the answer to the last line is read.
 ghost use Rattle.std.specs.Prelude.{◌≡◌, ◌≤◌, None};
-ghost use Rattle.c_sessions.specs.Sessions.{AnswerRead, InputFed, IsNewSession, OutputTaken};
+ghost use Rattle.c_sessions.specs.Sessions.{AnswerRead, InputFed, IsNewSession, OutputLent, OutputTaken};
 ghost use Rattle.c_values.specs.Statuses.{status_by};
 
 use crate::held::{Vm, give, take};
+use crate::outgoing::Outgoing;
 use crate::session::Session;
 use c_values::{Status, Told, tell};
 use std::alloc::Global;
@@ -67,6 +68,25 @@ pub fn take_output(alloc: Global, vm: &mut Vm, out: &mut [u8]) -> Told
             tell(status, len)
         }
         None => tell(Status::NoSession, 0),
+    }
+}
+
+/// Moves all of the VM's output to where C may read it until the next such call, and says where that is. If the call isn't made,
+/// `output` stays, and so does what C was lent before.
+pub fn lend_output(alloc: Global, vm: &mut Vm, output: &mut Outgoing) -> u32
+    ensures lent { OutputLent (status_by result) output.old output.new vm.old.value vm.new.value }
+    ensures known { result ≤ 24 }
+{
+    match take(alloc, vm) {
+        Some(mut session) => {
+            let status = session.lend_output();
+            if let Status::Done = status {
+                *output = session.outgoing();
+            }
+            give(alloc, vm, session);
+            status.code()
+        }
+        None => Status::NoSession.code(),
     }
 }
 

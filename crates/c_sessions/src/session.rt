@@ -1,14 +1,16 @@
 //! One VM, its last answer to a line, and its last reply to a call.
-ghost use Rattle.std.specs.Prelude.{◌≡◌, [], Some, codes};
+ghost use Rattle.std.specs.Prelude.{◌≡◌, [], Ok, Some, codes};
 ghost use Rattle.invocation_vm.specs.Making.{version_in};
 ghost use Rattle.invocation_vm.specs.Seen.{seen};
+ghost use Rattle.invocation_vm.specs.Views.{TakesOutput};
 ghost use Rattle.vm_types.specs.ContentTypes.{header_under};
 ghost use Rattle.vm_calls.specs.Making.{VmIsMade};
 ghost use Rattle.c_sessions.specs.Calls.{OnVm, part_read};
 ghost use Rattle.c_sessions.specs.Replies.{part_of, summary};
-ghost use Rattle.c_sessions.specs.Sessions.{AnswerRead, Drained, Fed, IsEmpty};
+ghost use Rattle.c_sessions.specs.Sessions.{AnswerRead, Drained, Fed, IsEmpty, Lends, outgoing_of};
 
 use crate::kept::keep;
+use crate::outgoing::Outgoing;
 use crate::parts::part_of;
 use crate::replied::{Replied, numbers_by, tell_status};
 use crate::vm_call::VmCall;
@@ -24,12 +26,13 @@ use vm_types::{ContentType, Reply, VMOptions};
 /// How many bytes of output a VM has room for without taking memory again, at most.
 const KEPT: usize = 65_536;
 
-/// One VM, if it was made, the answer to the last line, and the reply to the last call.
+/// One VM, if it was made, the answer to the last line, the reply to the last call, and the output that C was lent last.
 #[derive(Drop)]
 pub struct Session {
     pub vm: Option<CoreVM>,
     pub answer: Text,
     pub reply: Reply,
+    pub lent: Vec<u8>,
 }
 
 /// Feeds a VM bytes of its input.
@@ -70,6 +73,20 @@ fn drain_vm(vm: &mut CoreVM, out: &mut [u8]) -> (Status, usize)
     (Status::Done, len)
 }
 
+/// Moves all of a VM's output to `lent`, in the place of what that held. No byte is copied. The memory of what it held is used for the next
+/// output; if it is a long one, it is given back, as are the VM's buffers after a long output.
+fn lend_vm(vm: &mut CoreVM, lent: &mut Vec<u8>)
+    ensures { TakesOutput (Ok lent.new.items) (seen vm.old) (seen vm.new) }
+{
+    if lent.capacity() > KEPT {
+        *lent = Vec::new(vm.machine.alloc);
+    }
+    vm.machine.output.move_to(lent);
+    if lent.len() > KEPT {
+        vm.machine.output = Outbox::new(vm.machine.alloc);
+    }
+}
+
 impl Session {
     pub fn new(alloc: Global) -> Session
         ensures { IsEmpty result }
@@ -78,6 +95,7 @@ impl Session {
             vm: None,
             answer: Text::empty(alloc),
             reply: Reply::Nothing,
+            lent: Vec::new(alloc),
         }
     }
 
@@ -92,6 +110,7 @@ impl Session {
     #[tactic(auto, using(crate::proofs::Made::is_called, crate::proofs::Made::is_kept))]
     pub fn call<C: VmCall>(&mut self, alloc: Global, call: C) -> Replied
         ensures answer { self.new.answer ≡ self.old.answer }
+        ensures lent { self.new.lent ≡ self.old.lent }
         ensures called { OnVm (C.does call) result self.old.vm self.new.vm self.old.reply
             self.new.reply }
     {
@@ -107,6 +126,7 @@ impl Session {
     /// Puts a new VM in the place of the last. Returns its version, or why there is none.
     pub fn make(&mut self, alloc: Global, content_type: ContentType, options: VMOptions) -> Replied
         ensures answer { self.new.answer ≡ self.old.answer }
+        ensures lent { self.new.lent ≡ self.old.lent }
         ensures made { VmIsMade alloc options
             (version_in (header_under content_type (codes "content-type")))
             self.new.reply self.new.vm }
@@ -130,6 +150,7 @@ impl Session {
     pub fn feed(&mut self, alloc: Global, bytes: &[u8]) -> Status
         ensures answer { self.new.answer ≡ self.old.answer }
         ensures reply { self.new.reply ≡ self.old.reply }
+        ensures lent { self.new.lent ≡ self.old.lent }
         ensures fed { Fed bytes.now result self.old.vm self.new.vm }
     {
         match &mut self.vm {
@@ -142,11 +163,37 @@ impl Session {
     pub fn take_output(&mut self, out: &mut [u8]) -> (Status, usize)
         ensures answer { self.new.answer ≡ self.old.answer }
         ensures reply { self.new.reply ≡ self.old.reply }
+        ensures lent { self.new.lent ≡ self.old.lent }
         ensures taken { Drained result.0 result.1 out.old out.new self.old.vm self.new.vm }
     {
         match &mut self.vm {
             Some(vm) => drain_vm(vm, out),
             None => (Status::NoVm, 0),
+        }
+    }
+
+    /// Moves all of the VM's output to where C may read it, in the place of what C was lent before.
+    pub fn lend_output(&mut self) -> Status
+        ensures answer { self.new.answer ≡ self.old.answer }
+        ensures reply { self.new.reply ≡ self.old.reply }
+        ensures lent { Lends result self.old.vm self.new.vm self.old.lent self.new.lent }
+    {
+        match &mut self.vm {
+            Some(vm) => {
+                lend_vm(vm, &mut self.lent);
+                Status::Done
+            }
+            None => Status::NoVm,
+        }
+    }
+
+    /// Where the output lies that C was lent last.
+    pub fn outgoing(&self) -> Outgoing
+        ensures { result ≡ outgoing_of self.now.lent }
+    {
+        Outgoing {
+            at: self.lent.as_ptr(),
+            len: self.lent.len(),
         }
     }
 }

@@ -11,8 +11,10 @@ use Rattle.c_values.specs.declared.status.Status.TheVariants as status
 abbrev pub LineDone : Global → List ℕ → Status → Session → Session → Type 0
 LineDone alloc line status.Done old new =
     Transcribes alloc old.vm new.vm line new.answer × (new.reply ≡ old.reply)
+    × (new.lent ≡ old.lent)
 LineDone alloc line status.NoMemory old new =
     (new.answer ≡ old.answer) × IsUnanswered alloc old.vm new.vm line × (new.reply ≡ old.reply)
+    × (new.lent ≡ old.lent)
 LineDone alloc line told old new = ⊥
 
 -- A line is performed on the session that there is; `len` is the length of its answer.

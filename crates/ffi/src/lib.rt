@@ -9,10 +9,10 @@ mod texts;
 mod typed;
 
 ghost use Rattle.std.specs.Prelude.{◌≡◌, ◌≤◌, None};
-ghost use Rattle.c_sessions.specs.Sessions.{AnswerRead, InputFed, IsNewSession, OutputTaken};
+ghost use Rattle.c_sessions.specs.Sessions.{AnswerRead, InputFed, IsNewSession, OutputLent, OutputTaken};
 ghost use Rattle.c_values.specs.Statuses.{status_by};
 
-use c_sessions::{Vm, calls};
+use c_sessions::{Outgoing, Vm, calls};
 use c_values::Told;
 use std::alloc::Global;
 
@@ -52,6 +52,16 @@ pub extern "C" fn proved_take_output(alloc: Global, vm: &mut Vm, out: &mut [u8])
     ensures known { result.status ≤ 24 }
 {
     calls::take_output(alloc, vm, out)
+}
+
+/// Moves all of the VM's output to where C may read it until the next such call, and says where that is. If the call isn't made,
+/// `output` stays, and so does what C was lent before.
+#[unsafe(no_mangle)]
+pub extern "C" fn proved_lend_output(alloc: Global, vm: &mut Vm, output: &mut Outgoing) -> u32
+    ensures lent { OutputLent (status_by result) output.old output.new vm.old.value vm.new.value }
+    ensures known { result ≤ 24 }
+{
+    calls::lend_output(alloc, vm, output)
 }
 
 /// Drops the session, if there is one.

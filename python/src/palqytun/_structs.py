@@ -361,6 +361,7 @@ FUNCTIONS: dict[str, tuple[list[Any], Any]] = {
     "take_output": ([ctypes.c_void_p, ctypes.c_char_p, ctypes.c_size_t], Told),
     "close": ([ctypes.c_void_p], ctypes.c_uint32),
     "part": ([ctypes.c_void_p, ctypes.c_size_t, ctypes.c_char_p, ctypes.c_size_t], Told),
+    "lend_output": ([ctypes.c_void_p, ctypes.POINTER(Bytes)], ctypes.c_uint32),
     "make": ([ctypes.c_void_p, Optional, ctypes.POINTER(Options)], Replied),
     "is_ready": ([ctypes.c_void_p], Replied),
     "head": ([ctypes.c_void_p], Replied),

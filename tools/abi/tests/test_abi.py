@@ -110,6 +110,12 @@ class Between(unittest.TestCase):
         places += [code.rindex(it) for it in ("proved_complete_awakeable(held, id, &lent_value, unstable)", "handle_give(held)", "lend_end(&arrays)")]
         self.assertEqual(places, sorted(places))
 
+    def test_a_call_writes_where_it_is_told(self) -> None:
+        (code,) = [between.calls([it]) for it in sources.exports(TOP) if it.name == "proved_lend_output"]
+        places = [code.index(it) for it in ("lend_out(&status, output)", "handle_take(&status, vm, A_VM)", "return status", "proved_lend_output(held, output)")]
+        self.assertEqual(places, sorted(places))
+        self.assertNotIn("lent_output", code)
+
 
 if __name__ == "__main__":
     unittest.main()

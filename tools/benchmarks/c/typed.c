@@ -83,17 +83,14 @@ static void make_room(size_t len)
         exit(1);
 }
 
-/* Copies the output. */
+/* Takes the output, where it lies. */
 static void drain(void)
 {
-    palqytun_told told = palqytun_take_output(vm, out.at, out.room);
-    if (told.status == PALQYTUN_NO_ROOM) {
-        make_room(told.len);
-        told = palqytun_take_output(vm, out.at, out.room);
-    }
-    if (told.status != PALQYTUN_DONE)
-        fail("take_output", told.status);
-    sent += told.len;
+    palqytun_bytes lent;
+    uint32_t status = palqytun_lend_output(vm, &lent);
+    if (status != PALQYTUN_DONE)
+        fail("lend_output", status);
+    sent += lent.len;
 }
 
 static size_t copy_part(size_t len)
