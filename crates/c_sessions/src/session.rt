@@ -73,7 +73,7 @@ fn drain_vm(vm: &mut CoreVM, out: &mut [u8]) -> (Status, usize)
     (Status::Done, len)
 }
 
-/// Moves all of a VM's output to `lent`, in the place of what that held. No byte is copied. The memory of what it held is used for the next
+/// Moves all of a VM's output to `lent`, instead of what that held. No byte is copied. The memory of what it held is used for the next
 /// output; if it is a long one, it is given back, as are the VM's buffers after a long output.
 fn lend_vm(vm: &mut CoreVM, lent: &mut Vec<u8>)
     ensures { TakesOutput (Ok lent.new.items) (seen vm.old) (seen vm.new) }
@@ -172,7 +172,7 @@ impl Session {
         }
     }
 
-    /// Moves all of the VM's output to where C may read it, in the place of what C was lent before.
+    /// Moves all of the VM's output to where C may read it, instead of what C was lent before.
     pub fn lend_output(&mut self) -> Status
         ensures answer { self.new.answer ≡ self.old.answer }
         ensures reply { self.new.reply ≡ self.old.reply }

@@ -142,7 +142,7 @@ impl Outbox {
         self.stream.len()
     }
 
-    /// Moves the bytes of all frames to `bytes`, in the place of what that held. The next frames are written to the memory that it had.
+    /// Moves the bytes of all frames to `bytes`, instead of what that held. The next frames are written to the memory that it had.
     pub fn move_to(&mut self, bytes: &mut Vec<u8>)
         ensures moved { bytes.new.items ≡ concat self.old }
         ensures whole { WholeStream bytes.new.items }
