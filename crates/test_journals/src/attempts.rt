@@ -1,6 +1,5 @@
 // One attempt over a layer, whole: a handler that sleeps and answers. The peer speaks the layer's bytes; a transcoder stands between, and
 // nothing else knows of them. What the VM writes is the same over each layer.
-use crate::short::Short;
 use await_trees::{NotificationHandle, UnresolvedFuture};
 use bytes::Bytes;
 use invocation_vm::{CoreVM, VM};
@@ -13,7 +12,7 @@ use test_support::frames::{
     AWAITING_ON_1, COMPLETION_1, END, INPUT_TILL, OUTPUT_X, SLEEP_TO_1000, START_1,
 };
 use test_support::headers::Headers;
-use vm_layers::{Layer, LayerFault, Own, Transcoder, translate};
+use vm_layers::{Layer, LayerFault, Own, Short, Transcoder, translate};
 use vm_types::{AwaitResponse, NonEmptyValue, PayloadOptions, VMOptions, VMResult, Value};
 
 fn answered<T>(given: VMResult<T>) -> Result<T, Fail> {

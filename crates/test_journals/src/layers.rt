@@ -1,12 +1,11 @@
 // The second layer by its versions, and a stream's translation piece by piece.
-use crate::short::Short;
 use bytes::Bytes;
 use journal_protocol::Version;
 use std::alloc::{AllocError, Global};
 use std::process::Abort;
 use std::test::Fail;
 use test_support::frames::{AWAITING_ON_1, COMPLETION_1, INPUT_TILL, SLEEP_TO_1000};
-use vm_layers::{Layer, LayerFault, Own, Translator, translate};
+use vm_layers::{Layer, LayerFault, Own, Short, Translator, translate};
 
 /// All of id 1, and of id 2, signal 17 and signal "a" the first.
 const SUSPENSION_ON_A_TREE: &[u8] = b"\0\x02\0\0\0\0\0\0\0\x57\

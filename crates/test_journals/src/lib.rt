@@ -1,6 +1,6 @@
 //! Journals as their writers know them. Rows of stored journals: what is loaded, arrives and was written, with the entries, answers and
-//! faults that the rules of storing give. A second layer of bytes below the same interface, in several versions, with one attempt over it,
-//! whole. And the ends of the VM's counters, by its calls.
+//! faults that the rules of storing give. An attempt over the second layer, whole, and what each of its versions has. And the ends of the VM's
+//! counters, by its calls.
 #![tactic(auto)]
 
 #[cfg(test)]
@@ -11,4 +11,3 @@ mod counters;
 mod layers;
 #[cfg(test)]
 mod rows;
-pub mod short;

@@ -4,3 +4,5 @@ pub mod Fed
 pub mod Output
 pub mod Coming
 pub mod Taken
+mod Framed
+mod Decoded

@@ -9,8 +9,9 @@ ghost use Rattle.vm_layers.specs.Kept.{kept_ids};
 ghost use Rattle.journal_protocol.specs.Version.{Version};
 ghost use Rattle.vm_layers.specs.Layers.{Partial};
 ghost use Rattle.vm_layers.specs.declared.layer.LayerFault.TheVariants.{Memory};
-ghost use Rattle.test_journals.specs.Short.{Framed, body_in, cut_in, knows_type, short_front, suspension_of, type_in, sent_form};
+ghost use Rattle.vm_layers.specs.Short.{Framed, body_in, cut_in, knows_type, short_front, suspension_of, type_in, sent_form};
 
+use crate::layer::{Layer, LayerFault};
 use bytes::Bytes;
 use journal_protocol::{
     Decoder, Encoder, Future, FutureKind, FutureNode, Message, MessageType, RawMessage, Suspension,
@@ -18,7 +19,6 @@ use journal_protocol::{
 };
 use plain::{Items, Text};
 use std::alloc::{AllocError, Global};
-use vm_layers::{Layer, LayerFault};
 
 /// A frame is a length (4 bytes, the most significant first), as many bytes, and the type's number (2 bytes). The first of those bytes is a
 /// mark, 0 or 1, and the body follows; the frames with either mark encode the same message. Below version 7 a suspension is written without
@@ -222,8 +222,8 @@ fn body_at(stream: &Bytes, len: usize) -> Result<Option<Bytes>, AllocError>
 }
 
 impl Layer for Short {
-    ghost use Rattle.test_journals.specs.Laws.{short_keeps, short_malformed_stays, short_read_back, short_rest_is_shorter, short_whole_stays};
-    ghost use Rattle.test_journals.specs.Short.{HasMessage, IsShort, short, short_front, sent_form};
+    ghost use Rattle.vm_layers.specs.ShortLaws.{short_keeps, short_malformed_stays, short_read_back, short_rest_is_shorter, short_whole_stays};
+    ghost use Rattle.vm_layers.specs.Short.{HasMessage, IsShort, short, short_front, sent_form};
 
     ghost frame = { short };
 

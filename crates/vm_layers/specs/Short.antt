@@ -20,7 +20,7 @@ use Rattle.vm_layers.specs.Layers.{Front, Partial, Malformed}
 use Rattle.vm_layers.specs.Own.{front_if}
 use Rattle.vm_layers.specs.declared.layer.LayerFault.{LayerFault}
 use Rattle.vm_layers.specs.declared.layer.LayerFault.TheVariants as fault
-use Rattle.test_journals.specs.declared.short.Short.{Short}
+use Rattle.vm_layers.specs.declared.short.Short.{Short}
 
 -- ---- what a version has
 

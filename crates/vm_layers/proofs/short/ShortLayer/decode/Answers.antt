@@ -1,6 +1,6 @@
 use Rattle.std.proofs.Common.{sym, ◌∙◌}
-use Rattle.test_journals.proofs.Decoded.{no_body, no_type, read, refused}
-use Rattle.test_journals.proofs.short.ShortLayer.decode.Goals as goal
+use Rattle.vm_layers.proofs.Decoded.{no_body, no_type, read, refused}
+use Rattle.vm_layers.proofs.short.ShortLayer.decode.Goals as goal
 
 pub returns-in_default-type_after : goal.returns-in_default-type_after
 returns-in_default-type_after c =

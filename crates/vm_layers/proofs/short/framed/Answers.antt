@@ -1,7 +1,7 @@
 use Rattle.std.proofs.Common.{refl, ap, ◌∙◌, sym}
 use Rattle.journal_protocol.specs.Frames.{next_of}
-use Rattle.test_journals.proofs.Framed.{found, no_part, only_memory}
-use Rattle.test_journals.proofs.short.framed.Goals as goal
+use Rattle.vm_layers.proofs.Framed.{found, no_part, only_memory}
+use Rattle.vm_layers.proofs.short.framed.Goals as goal
 
 pub returns-in-Ok-Some-clause-framed : goal.returns-in-Ok-Some-clause-framed
 returns-in-Ok-Some-clause-framed c =

@@ -20,8 +20,8 @@ use Rattle.journal_protocol.proofs.Facts.{small_number, type_found}
 use Rattle.vm_layers.specs.Kept.{Keeps, without_tree}
 use Rattle.vm_layers.specs.Layers.{Front, Whole, Partial, Malformed}
 use Rattle.vm_layers.specs.Own.{front_if, malformed_if, rest_if, whole_if}
-use Rattle.test_journals.specs.declared.short.Short.{Short}
-use Rattle.test_journals.specs.Short.{IsShort, body_in, knows_type, type_if_known, mark_of, short, short_frame, short_front, short_front_in, sized, suspension_of, type_in, sent_form, sent_if}
+use Rattle.vm_layers.specs.declared.short.Short.{Short}
+use Rattle.vm_layers.specs.Short.{IsShort, body_in, knows_type, type_if_known, mark_of, short, short_frame, short_front, short_front_in, sized, suspension_of, type_in, sent_form, sent_if}
 
 some_is : {a s : Suspension} → Some a ≡ Some s → a ≡ s
 some_is e = cc

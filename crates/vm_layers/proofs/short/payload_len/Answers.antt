@@ -1,5 +1,5 @@
-use Rattle.test_journals.specs.Laws.{part_of_frame, part_of_length}
-use Rattle.test_journals.proofs.short.payload_len.Goals as goal
+use Rattle.vm_layers.specs.ShortLaws.{part_of_frame, part_of_length}
+use Rattle.vm_layers.proofs.short.payload_len.Goals as goal
 
 pub returns-in_default : goal.returns-in_default
 returns-in_default c = λ v. part_of_length v c.args.bytes.now (rw c.in_default.is at c.length_at.ensures)

@@ -8,9 +8,9 @@ use Rattle.journal_protocol.specs.MessageType.{MessageType}
 use Rattle.journal_protocol.specs.Message.{Message}
 use Rattle.vm_layers.specs.Layers.{IsFrontRead, Malformed, Whole, layer_fault}
 use Rattle.vm_layers.specs.Own.{front_if}
-use Rattle.test_journals.specs.Laws.{whole_frame}
+use Rattle.vm_layers.specs.ShortLaws.{whole_frame}
 use Rattle.journal_protocol.specs.Version.{Version}
-use Rattle.test_journals.specs.Short.{body_in, short_front, short_front_in, type_in}
+use Rattle.vm_layers.specs.Short.{body_in, short_front, short_front_in, type_in}
 
 -- n bytes and a number stand after the length
 pub record IsFramed (bs : List ℕ) (n : ℕ) : Type 0 where
