@@ -1,3 +1,3 @@
 pub mod Reading
-pub mod Targets
+pub mod Handlers
 pub mod Printing

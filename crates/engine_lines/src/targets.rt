@@ -31,7 +31,7 @@ fn target_of(alloc: Global, planned: Planned) -> Target<Plan>
 }
 
 /// All handlers.
-#[tactic(auto, using(crate::proofs::Targets::targets_none, crate::proofs::Targets::targets_more, crate::proofs::Targets::targets_all))]
+#[tactic(auto, using(crate::proofs::Handlers::targets_none, crate::proofs::Handlers::targets_more, crate::proofs::Handlers::targets_all))]
 pub fn targets_of(alloc: Global, handlers: Vec<Planned>) -> Result<Vec<Target<Plan>>, AllocError>
     ensures { IfOk result (λ targets. AllZip IsTarget handlers.items targets.items) }
 {

@@ -1,6 +1,6 @@
 use Rattle.std.proofs.Common.{◌≡◌, length}
 use Rattle.std.specs.Vec.Iter.{into_iter_items, into_iter_len}
-use Rattle.engine_lines.proofs.Targets.{TargetsOn}
+use Rattle.engine_lines.proofs.Handlers.{TargetsOn}
 use Rattle.engine_lines.proofs.targets.targets_of.Given as goal
 
 abbrev pub invariant-loop-planned : goal.invariant-loop-planned
