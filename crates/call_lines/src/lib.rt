@@ -2,6 +2,7 @@
 //! said in such lines.
 #![tactic(auto)]
 
+mod alone;
 pub mod answer;
 pub mod callees;
 pub mod copies;

@@ -8,14 +8,13 @@ ghost use Rattle.lines.specs.Readings.{Blames};
 ghost use Rattle.plain.specs.declared.fault.Fault.TheVariants.{Malformed};
 ghost use Rattle.call_lines.specs.Verbs.{IsAsked, IsAwaited, IsBare, IsLine};
 
+use crate::alone::{ephemeral_id_alone, handle_alone};
 use crate::callees::{call_line, call_with_deadline_line, send_line};
 use crate::request::Request;
 use crate::verb::{Verb, verb_of_word};
 use await_trees::UnresolvedFuture;
 use bytes::Bytes;
-use line_parts::arguments::{
-    Extras, bytes_alone, ephemeral_id_alone, extras_of, handle_alone, name_of, now_of, text_alone,
-};
+use line_parts::arguments::{Extras, bytes_alone, extras_of, name_of, now_of, text_alone};
 use line_parts::options::options_of;
 use line_parts::report::report_of;
 use line_parts::results::{Proposal, proposal_of};

@@ -6,10 +6,7 @@ ghost use Rattle.lines.specs.Fields.{IsOptional, texts_named};
 ghost use Rattle.line_parts.specs.Values.{HasExtras, HasFlag, HasName, HasNow, words_without};
 ghost use Rattle.lines.specs.Durations.{IsTime};
 ghost use Rattle.lines.specs.Words.{AreThreeTexts, AreTwoTexts, IsOneAtom, IsOneText};
-ghost use Rattle.line_parts.specs.Handles.{IsEphemeralId, IsHandle};
 
-use crate::handles::{ephemeral_id_of, handle_of};
-use await_trees::NotificationHandle;
 use bytes::Bytes;
 use lines::atoms::{shared_of, text_of};
 use lines::durations::duration_of;
@@ -18,7 +15,7 @@ use lines::words::{behind, text_in};
 use plain::{Fault, Text};
 use std::alloc::{AllocError, Global};
 use std::time::Duration;
-use vm_types::{EphemeralCompletionId, PayloadOptions};
+use vm_types::PayloadOptions;
 
 /// The options after a command's arguments.
 #[derive(Drop)]
@@ -158,28 +155,6 @@ pub fn now_of(words: &[&[u8]]) -> Result<Option<Duration>, Fault>
         return Err(Fault::Malformed);
     }
     optional_duration(words, "now=")
-}
-
-/// `H` alone.
-pub fn handle_alone(arguments: &[&[u8]]) -> Result<NotificationHandle, Fault>
-    ensures value { IfOk result (IsHandle arguments.now) }
-    ensures none { IfErr result (Blames (IsHandle arguments.now)) }
-{
-    match arguments {
-        [handle] => handle_of(*handle),
-        _ => Err(Fault::Malformed),
-    }
-}
-
-/// `I` alone.
-pub fn ephemeral_id_alone(arguments: &[&[u8]]) -> Result<EphemeralCompletionId, Fault>
-    ensures value { IfOk result (IsEphemeralId arguments.now) }
-    ensures none { IfErr result (Blames (IsEphemeralId arguments.now)) }
-{
-    match arguments {
-        [id] => ephemeral_id_of(*id),
-        _ => Err(Fault::Malformed),
-    }
 }
 
 /// `T` alone.
