@@ -1,5 +1,6 @@
 //! What the error is about by which a call has failed a VM.
 use crate::awaits::explain_await;
+use crate::codes::name_of;
 use crate::commands::{explain_command, explain_input, explain_read, explain_second};
 use crate::features::{Feature, explain_feature, explain_proposal, explain_refused};
 use crate::moment::Moment;
@@ -144,6 +145,20 @@ fn explain_call(
     }
 }
 
+/// Writes an error of the VM's own: its code with its name, its text if that is another, and a colon.
+pub fn show_error(error: &Error, line: &mut Line) -> Result<(), AllocError> {
+    line.number(u64::from(error.code()))?;
+    line.word(" ")?;
+    if let Some(name) = name_of(error.code())
+        && name != error.message()
+    {
+        line.word(name)?;
+        line.word(": ")?;
+    }
+    line.word(error.message())?;
+    line.word(": ")
+}
+
 /// The code and the text of the error by which this call has failed the VM, and what it is about. There is none if the VM hasn't failed, or
 /// if the error says all that is known.
 pub fn explained(
@@ -156,10 +171,7 @@ pub fn explained(
         return Ok(None);
     };
     let mut line = Line::new(alloc);
-    line.number(u64::from(error.code()))?;
-    line.word(" ")?;
-    line.word(error.message())?;
-    line.word(": ")?;
+    show_error(error, &mut line)?;
     if explain_call(vm, moment, call, error, &mut line)? {
         Ok(Some(line))
     } else {

@@ -5,6 +5,7 @@
 
 pub mod attempt;
 mod awaits;
+mod codes;
 mod commands;
 pub mod explain;
 mod features;

@@ -1,5 +1,6 @@
 //! What the errors of a script's rounds are about.
 use call_details::attempt::explain_attempt;
+use call_details::explain::show_error;
 use journal_protocol::{Error, Version};
 use lines::line::Line;
 use std::alloc::{AllocError, Global};
@@ -9,10 +10,7 @@ use world_scripts::handed::{FailedRound, failed_rounds};
 /// Whether a line begins with this error.
 fn is_about(alloc: Global, told: &Line, error: &Error) -> Result<bool, AllocError> {
     let mut line = Line::new(alloc);
-    line.number(u64::from(error.code()))?;
-    line.word(" ")?;
-    line.word(error.message())?;
-    line.word(": ")?;
+    show_error(error, &mut line)?;
     Ok(told.as_str().starts_with(line.as_str()))
 }
 
