@@ -17,7 +17,7 @@ from collections.abc import Callable
 import palqytun
 from attempt import begun, cancel_signal, completion, fed, input_frame, sleep_frame, start
 from palqytun import VM, VOID, Awakeable, BadLine, Cancelled, Closed, ExecuteRun, Failure, Fault, Future, Input, InvocationId, Journal, JournalFault
-from palqytun import JournalMismatch, Related, Retryable, RetryPolicy, Run, Suspended, VMError, Waiting, WorkflowId, all_completed, first_completed
+from palqytun import Code, JournalMismatch, Related, Retryable, RetryPolicy, Run, Suspended, VMError, Waiting, WorkflowId, all_completed, first_completed
 from palqytun import CANCEL_HANDLE, SUPPORTED_VERSIONS, content_type, retry_fixed, retry_never, seed_of_start
 from palqytun.errors import BadFrame, error_of
 from palqytun.frames import frame_of
@@ -105,6 +105,49 @@ class OwnErrors(unittest.TestCase):
                     vm.is_ready_to_execute()
                 vm.notify_error(code, text)
                 self.check(vm.sys_end, code)
+
+    def test_by_lines(self) -> None:
+        for code, text in self.OWN:
+            with self.subTest(code=code, text=text):
+                vm, ran = begun(), begun()
+                said = "0x" + text.encode("ascii", "backslashreplace").hex()
+                self.assertEqual(vm.line(f"error {code} {said} delay=5"), "ok")
+                self.assertEqual(vm.line('error 418 "no tea"'), "ok")  # it keeps its first error
+                run = ran.sys_run("charge").handle
+                ran.do_await(run)
+                self.check(lambda: ran.call(f"propose {run} retryable 5 {code} {said}"), code)
+                for it in (vm, ran):
+                    for call in (lambda: it.call("end"), it.sys_end, it.is_ready_to_execute, lambda: it.call("await 1")):
+                        self.check(call, code)
+
+    def test_an_own_error_of_a_call_that_hands_one_in(self) -> None:
+        """The version has no such behaviour, and nobody waits for the run."""
+        for code in (418, Code.INTERNAL, Code.UNSUPPORTED_FEATURE):
+            vms = [VM(content_type(6)), VM(content_type(6)), begun(), begun()]
+            vms[0].notify_error(code, "mine", behaviour="pause")
+            vms[1].line(f'error {code} "mine" behaviour=pause')
+            with self.assertRaises(VMError):
+                vms[2].propose_run_completion(99, Retryable(code, "mine"))
+            with self.assertRaises(VMError):
+                vms[3].call(f'propose 99 retryable 1 {code} "mine"')
+            texts = ["573 UNSUPPORTED_FEATURE: UnsupportedFeatureForNegotiatedVersion"] * 2 + ["500 INTERNAL: no pending run"] * 2
+            for vm, text in zip(vms, texts):
+                for call in (vm.sys_end, lambda: vm.call("end")):
+                    with self.subTest(code=code, text=text), self.assertRaises(VMError) as found:
+                        call()
+                    self.assertEqual((str(found.exception), found.exception.is_own), (text, True))
+
+    def test_a_line_that_makes_another_vm(self) -> None:
+        vm = begun()
+        vm.notify_error(598, "ClosedError")
+        self.assertEqual(vm.line(' vm  "application/vnd.restate.invocation.v6"'), "ok V6")
+        self.assertEqual(vm.describe(), "V6 WaitingPreFlight, no command")
+        vm.notify_input(start() + input_frame())
+        vm.call("sys_input")
+        self.assertEqual(vm.describe(), "V6 abc Processing, last command 0")
+        vm.call("end")
+        self.assertRaises(Closed, vm.call, 'sleep "" 1')
+        self.assertRaises(Closed, vm.sys_sleep, 1)
 
     def test_that_was_not_taken(self) -> None:
         """An error that the VM didn't fail by, with the code and the text of the VM's own that comes later."""

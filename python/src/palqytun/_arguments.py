@@ -10,6 +10,7 @@ from collections.abc import Iterable
 from typing import get_args
 
 from palqytun._abi import Command, Error, Invocation, Options, Pairs, Policy, Target, Value
+from palqytun._lines import unescaped
 from palqytun._words import CODE, HANDLE, SEED, both, encoded, integer, octets, one_of, spoken, utf8
 from palqytun.errors import BadLine
 from palqytun.retries import RetryPolicy
@@ -17,7 +18,6 @@ from palqytun.values import Behaviour, Data, Failure, IdempotencyId, InvocationI
 
 # A command as `related` has it: `last`, `next(TYPE NAME)` or `at(N TYPE NAME)`; the name is a text in quotes or `-`.
 _RELATED = re.compile(r'last|(?:(next)\(|at\(([0-9]+) )([A-Za-z]+) (?:-|"((?:[^"\\\n\r]|\\.)*)")\)')
-_ESCAPED = re.compile(rb'\\(?:x([0-9A-Fa-f]{2})|(["\\]))')
 _TYPES = (
     "Input",
     "Output",
@@ -105,11 +105,6 @@ def lent_retryable(name: str, result: Retryable) -> Error:
     return lent_error(f"{name}.", result.code, result.message, result.stacktrace, result.behaviour, result.delay)
 
 
-def _unescaped(quoted: str) -> bytes:
-    """The bytes of a name that stood in quotes."""
-    return _ESCAPED.sub(lambda it: it[2] or bytes([int(it[1], 16)]), quoted.encode())
-
-
 def lent_command(command: str | None) -> Command:
     """The command that an error relates to."""
     if command is None:
@@ -122,7 +117,7 @@ def lent_command(command: str | None) -> Command:
     encoded("related", command)
     if found[3] is None:
         return Command(1, 0, 0, None)
-    name = None if found[4] is None else _unescaped(found[4])
+    name = None if found[4] is None else unescaped(found[4])
     index = 0 if found[2] is None else integer("related", int(found[2]), HANDLE)
     return Command(2 if found[1] else 3, index, _TYPES.index(found[3]), name)
 

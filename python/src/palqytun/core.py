@@ -38,8 +38,7 @@ from collections.abc import Iterable
 from types import TracebackType
 from typing import Literal, Never, Self, cast
 
-from palqytun import _abi, _library
-from palqytun._answers import shown
+from palqytun import _abi, _answers, _library
 from palqytun._arguments import (
     lent_command,
     lent_content_type,
@@ -54,6 +53,7 @@ from palqytun._arguments import (
 )
 from palqytun._abi import Replied
 from palqytun._hastened import hastened
+from palqytun._lines import handed_in, word_of
 from palqytun._replies import Parts, awaited_of, input_of, related_of, result_of
 from palqytun._words import HANDLE, integer, octets, truth, utf8
 from palqytun.errors import BadLine, Cancelled, Closed, Code, Fault, JournalFault, JournalMismatch, Related, Suspended, VMError, error_of
@@ -246,10 +246,26 @@ class VM:
         >>> vm.line("await 17")
         'ok wait true false'
         """
-        told: _abi.Told = self._calls["line"](self._session, utf8("line", line))
+        given = utf8("line", line)
+        error = handed_in(line)
+        if error is not None and _has_failed(self._calls["is_ready"](self._session)):
+            error = None  # it keeps its first error
+        told: _abi.Told = self._calls["line"](self._session, given)
         if told.status:
             self._check(told.status)
-        return self._written("answer").decode("ascii")
+        answer = self._written("answer").decode("ascii")
+        if error is not None:
+            self._handed_in = error[0] if self._has_failed_by(*error, self._calls["is_ready"](self._session)) else None
+        self._note(word_of(line), answer)
+        return answer
+
+    def _note(self, word: str, answer: str) -> None:
+        """Notes what a line that begins with this word has done to the VM."""
+        if word == "vm":
+            self._is_begun, self._invocation_id, self._handed_in = False, "", None
+            self.version = answer[3:] if answer.startswith("ok ") else ""
+        elif word == "sys_input" and answer.startswith("ok "):
+            self._is_begun, self._invocation_id = True, _answers.input_of(answer).invocation_id
 
     def _written(self, name: str) -> bytes:
         """What a call writes."""
@@ -260,7 +276,8 @@ class VM:
         return written
 
     def call(self, line: str) -> str:
-        """Performs a line that is a call, and returns what stands after `ok`; an error is raised.
+        """Performs a line that is a call, and returns what stands after `ok`; an error is raised. It is none of the VM's own if a call or a line has
+        handed it in: a line says which error that is.
 
         >>> vm.call("await 17")
         'wait true false'
@@ -271,7 +288,7 @@ class VM:
             return rest
         if kind == "err":
             code, _, inside = rest.partition(" ")
-            raise self._refusal(int(code), shown(inside[1:-1]).decode(), line == "sys_input")
+            raise self._refusal(int(code), _answers.shown(inside[1:-1]).decode(), line == "sys_input")
         if kind == "none":
             raise RuntimeError("there is no VM")
         raise BadLine(f"the VM can't read this line: {line[:200]}")
@@ -305,9 +322,12 @@ class VM:
         replied: Replied = self._calls[name](self._session, *given)
         if not had_failed:
             after = replied if replied.status == _abi.REFUSED else self._calls["is_ready"](self._session)
-            is_by_it = _has_failed(after) and after.number == error.code and bool(self._parts.data(0)) == bool(error.message)
-            self._handed_in = error.code if is_by_it else None
+            self._handed_in = error.code if self._has_failed_by(error.code, bytes(error.message), after) else None
         self._made(replied)
+
+    def _has_failed_by(self, code: int, text: bytes, after: Replied) -> bool:
+        """Whether by this reply, the last one, the VM has failed by the error that was handed in."""
+        return _has_failed(after) and after.number == code and self._parts.data(0) == text
 
     def _refusal(self, code: int, said: str, is_first: bool, stacktrace: str = "", related: Related | None = None) -> Exception:
         """What a call is refused by: this error. One that was handed in is none of the VM's own, whatever its code."""
