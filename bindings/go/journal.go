@@ -4,7 +4,6 @@ package palqytun
 import "C"
 
 import (
-	"fmt"
 	"log"
 	"runtime"
 	"sync"
@@ -108,9 +107,8 @@ func (journal *Journal) Arrive(notification []byte) (Row, error) {
 // Store is what is stored of what an attempt of this version wrote since the last store, as [VM.TakeOutput] gave it: its commands, and the
 // completions that its proposals are.
 func (journal *Journal) Store(version int, output []byte) (Stored, error) {
-	if version < MinimumVersion || MaximumVersion < version {
-		why := fmt.Sprintf("must be from %d to %d, not %d", MinimumVersion, MaximumVersion, version)
-		return Stored{}, &ArgumentError{StatusBadNumber, "version", why}
+	if err := badVersion(version); err != nil {
+		return Stored{}, err
 	}
 	journal.guard.Lock()
 	defer journal.guard.Unlock()

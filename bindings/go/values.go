@@ -8,9 +8,21 @@ type Handle uint32
 // CancelHandle is the handle of the cancel signal, which a handler may await if [ImplicitCancellationDisabled].
 const CancelHandle Handle = 1
 
-// ContentType is that of a version, from [MinimumVersion] to [MaximumVersion].
-func ContentType(version int) string {
-	return fmt.Sprintf("application/vnd.restate.invocation.v%d", version)
+// ContentType is that of a version, from [MinimumVersion] to [MaximumVersion]; another one is an [*ArgumentError].
+func ContentType(version int) (string, error) {
+	if err := badVersion(version); err != nil {
+		return "", err
+	}
+	return fmt.Sprintf("application/vnd.restate.invocation.v%d", version), nil
+}
+
+// badVersion is the error of a version that no VM has.
+func badVersion(version int) error {
+	if MinimumVersion <= version && version <= MaximumVersion {
+		return nil
+	}
+	why := fmt.Sprintf("must be from %d to %d, not %d", MinimumVersion, MaximumVersion, version)
+	return &ArgumentError{StatusBadNumber, "version", why}
 }
 
 // Text is a text that is there, for what may be absent.

@@ -102,7 +102,7 @@ func (vm *VM) NotifyError(of HandlerError, related *RelatedCommand) error {
 	var lent room
 	defer lent.free()
 	given, command := lent.error(of), lent.command(related)
-	return vm.handIn(func(it *C.palqytun_replied) { C.pq_report_error(vm.handle, given, command, it) }, lent.of...)
+	return vm.handIn(of, func(it *C.palqytun_replied) { C.pq_report_error(vm.handle, given, command, it) }, lent.of...)
 }
 
 // TakeOutput takes all bytes that wait to be sent: whole frames.
@@ -412,7 +412,7 @@ func (vm *VM) ProposeRetryableFailure(handle Handle, tookMillis uint64, of Handl
 	var lent room
 	defer lent.free()
 	given, under := lent.error(of), lent.policy(policy)
-	return vm.handIn(func(it *C.palqytun_replied) {
+	return vm.handIn(of, func(it *C.palqytun_replied) {
 		C.pq_propose_retryable(vm.handle, C.uint32_t(handle), C.uint64_t(tookMillis), given, under, it)
 	}, lent.of...)
 }
@@ -442,27 +442,54 @@ func (vm *VM) told(call func(it *C.palqytun_replied), read func() error, of ...a
 	return read()
 }
 
-// handIn makes a call that hands in an error. A VM that fails by this call fails by that error.
-func (vm *VM) handIn(call func(it *C.palqytun_replied), of ...argument) error {
+// handIn makes a call that hands in this error. If the VM fails by it, each later call is refused by it; a VM that had failed keeps its first error.
+func (vm *VM) handIn(given HandlerError, call func(it *C.palqytun_replied), of ...argument) error {
 	vm.guard.Lock()
 	defer vm.guard.Unlock()
 	if vm.hasFailed() {
 		return vm.made(call, of...)
 	}
-	vm.failedByHandedIn = true
-	err := vm.made(call, of...)
-	vm.failedByHandedIn = vm.hasFailed()
-	return err
+	call(&vm.replied)
+	replied := vm.replied
+	isBy, err := vm.hasFailedBy(given)
+	if err != nil {
+		return err
+	}
+	vm.failedByHandedIn, vm.replied = isBy, replied
+	return vm.outcome(of)
+}
+
+// hasFailedBy says, after a call that handed in this error, whether the VM has failed by it. It may also have failed by one of its own, which
+// says something else: the version has no such behavior, nobody waits for the run, or no memory was found.
+func (vm *VM) hasFailedBy(given HandlerError) (bool, error) {
+	if Status(vm.replied.status) != StatusRefused {
+		C.pq_is_ready(vm.handle, &vm.replied)
+	}
+	if !vm.isFailure() || uint16(vm.replied.number) != given.Code {
+		return false, nil
+	}
+	message, err := vm.text(0)
+	return message == given.Message, err
 }
 
 // hasFailed says whether the VM has failed: only then an error that it returns is of this kind.
 func (vm *VM) hasFailed() bool {
 	C.pq_is_ready(vm.handle, &vm.replied)
+	return vm.isFailure()
+}
+
+// isFailure says whether the last reply is an error by which the VM has failed.
+func (vm *VM) isFailure() bool {
 	return Status(vm.replied.status) == StatusRefused && vm.replied.kind == C.PALQYTUN_ERROR
 }
 
 func (vm *VM) made(call func(it *C.palqytun_replied), of ...argument) error {
 	call(&vm.replied)
+	return vm.outcome(of)
+}
+
+// outcome is the error of the last reply, nil if it is done.
+func (vm *VM) outcome(of []argument) error {
 	switch Status(vm.replied.status) {
 	case StatusDone:
 		return nil

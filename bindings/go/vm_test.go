@@ -22,7 +22,7 @@ func must[T any](it T, err error) T {
 
 // begun is a VM of version 7 that has its input.
 func begun() *VM {
-	vm := must(New(ContentType(7), Options{}))
+	vm := must(New(must(ContentType(7)), Options{}))
 	for _, line := range []string{`Start id="abc" debug_id="abc" known_entries=1`, `Input value="Till"`} {
 		must(0, vm.NotifyInput(must(FrameOf(line))))
 	}
@@ -117,7 +117,7 @@ func TestAHandleOfAnotherVM(t *testing.T) {
 func TestWhatNamesNoCase(t *testing.T) {
 	vm := begun()
 	defer vm.Close()
-	_, err := New(ContentType(7), Options{SignalDelivery: 7})
+	_, err := New(must(ContentType(7)), Options{SignalDelivery: 7})
 	wants(t, err, StatusBadNumber)
 	wants(t, vm.NotifyError(HandlerError{Code: 418, Behavior: 9}, nil), StatusBadNumber)
 	wants(t, vm.NotifyError(HandlerError{Code: 418}, &RelatedCommand{Kind: 9}), StatusBadNumber)
@@ -165,7 +165,7 @@ func TestAnArgumentThatIsRefusedIsNamed(t *testing.T) {
 	_, err = NamedSignal(bad, must(ValueFrame(nil)))
 	says(t, err, "BadText: name must be UTF-8: at byte 1 stands 0xc3")
 
-	_, err = New(ContentType(7), Options{SignalDelivery: 7})
+	_, err = New(must(ContentType(7)), Options{SignalDelivery: 7})
 	says(t, err, "BadNumber: Options.SignalDelivery must be from 0 to 1, not 7")
 	says(t, vm.NotifyError(HandlerError{Code: 418, Behavior: 9}, nil), "BadNumber: HandlerError.Behavior must be from 0 to 2, not 9")
 	says(t, vm.NotifyError(HandlerError{}, &RelatedCommand{Kind: 9}), "BadNumber: RelatedCommand.Kind must be from 0 to 3, not 9")
@@ -196,6 +196,16 @@ func TestAnArgumentThatIsRefusedIsNamed(t *testing.T) {
 	}
 }
 
+func TestTheContentTypeOfAVersion(t *testing.T) {
+	if found := must(ContentType(8)); found != "application/vnd.restate.invocation.v8" {
+		t.Error(found)
+	}
+	for version, found := range map[int]string{4: "4", 9: "9", -1: "-1", 1<<32 + 7: "4294967303"} {
+		_, err := ContentType(version)
+		says(t, err, "BadNumber: version must be from 5 to 8, not "+found)
+	}
+}
+
 func TestTheTextsOfErrors(t *testing.T) {
 	_, err := New("text/plain", Options{})
 	says(t, err, "415 UnsupportedMediaType: BadContentType (the content type must be application/vnd.restate.invocation.vN with N from 5 to 8)")
@@ -211,7 +221,7 @@ func TestTheTextsOfErrors(t *testing.T) {
 }
 
 func TestErrorsHaveAllTheirFields(t *testing.T) {
-	vm := must(New(ContentType(7), Options{}))
+	vm := must(New(must(ContentType(7)), Options{}))
 	defer vm.Close()
 	lines := []string{
 		`Start id="abc" debug_id="abc" known_entries=2`, `Input value="Till"`, `Sleep wake_up_time=1000 result_completion_id=1 name="nap"`,
@@ -349,6 +359,21 @@ func TestAFailureThatIsTheResultOfARunIsNotHandedIn(t *testing.T) {
 	}
 	_, err = vm.SysSleep("", 1)
 	wants(t, err, ErrClosed)
+}
+
+// Errors of the VM's own by which a call that hands one in may fail: the version has no such behavior, and nobody waits for the run.
+func TestAnOwnErrorOfACallThatHandsInIsOwn(t *testing.T) {
+	for _, code := range []uint16{418, CodeInternal, CodeUnsupportedFeature} {
+		given := HandlerError{Code: code, Message: "mine", Behavior: ErrorBehaviorPause}
+		old := must(New(must(ContentType(6)), Options{}))
+		must(0, old.NotifyError(given, nil))
+		says(t, old.SysEnd(), "573 UnsupportedFeature: UnsupportedFeatureForNegotiatedVersion")
+		must(0, old.Close())
+		vm := begun()
+		says(t, vm.ProposeRetryableFailure(99, 1, given, RetryPolicy{}), "500 Internal: no pending run")
+		says(t, vm.SysEnd(), "500 Internal: no pending run")
+		must(0, vm.Close())
+	}
 }
 
 func TestAJournalAndItsEffects(t *testing.T) {

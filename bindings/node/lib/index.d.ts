@@ -315,7 +315,7 @@ export class LoadError extends Error {
   readonly path: string;
 }
 
-/** The content type of a version. */
+/** The content type of a version, one of SUPPORTED_VERSIONS. Another one is a RangeError. */
 export function contentType(version: number): string;
 /** The library's version, the commit and the sum of the kit's logic that it was built of, and `proved` or `unproved`. */
 export function build(): string;

@@ -2,6 +2,7 @@
 
 const { NUMBERS, SUPPORTED_VERSIONS } = require('./abi');
 const { addon } = require('./addon');
+const lent = require('./arguments');
 const { Closed, Code, JournalMismatch, LoadError, StatusError, Suspended, VMError } = require('./errors');
 const frames = require('./frames');
 const { Future, allCompleted, allSucceededOrFirstFailed, firstCompleted, firstSucceededOrAllFailed, unknown } = require('./future');
@@ -24,7 +25,7 @@ module.exports = {
   allCompleted,
   allSucceededOrFirstFailed,
   build: () => addon().build(),
-  contentType: (version) => `application/vnd.restate.invocation.v${version}`,
+  contentType: (version) => `application/vnd.restate.invocation.v${lent.version('version', version)}`,
   firstCompleted,
   firstSucceededOrAllFailed,
   frames,

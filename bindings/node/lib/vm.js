@@ -50,20 +50,26 @@ class VM {
     return made(this.#addon, this.#session, status, this.#failedByHandedIn);
   }
 
-  /** Makes a call that hands in an error. A VM that fails by this call fails by that error. */
-  #handIn(call) {
-    const isFirst = !this.#hasFailed();
-    if (isFirst) this.#failedByHandedIn = true;
-    try {
-      this.#made(call());
-    } finally {
-      if (isFirst) this.#failedByHandedIn = this.#hasFailed();
-    }
+  /** Makes a call that hands in this error. If the VM fails by it, each later call is refused by it; a VM that had failed keeps its first error. */
+  #handIn(error, call) {
+    const hadFailed = this.#hasFailed();
+    const status = call();
+    if (!hadFailed) this.#failedByHandedIn = this.#hasFailedBy(error, status);
+    this.#made(status);
   }
 
-  /** Whether the VM has failed: only then an error that it returns is of this kind. */
-  #hasFailed() {
-    return this.#addon.is_ready(this.#session) === NUMBERS.REFUSED && this.#addon.reply[1] === NUMBERS.ERROR;
+  /**
+   * Whether the VM has failed by this error, after a call of this status that handed it in. It may also have failed by one of its own, which says
+   * something else: the version has no such behavior, nobody waits for the run, or no memory was found.
+   */
+  #hasFailedBy({ code, message }, status) {
+    if (!this.#hasFailed(status === NUMBERS.REFUSED ? status : undefined)) return false;
+    return this.#addon.reply[5] === code && (this.#text(0) ?? '') === message;
+  }
+
+  /** Whether the VM has failed: only then an error that it returns is of this kind. The status is that of the last reply, if it is of a refusal. */
+  #hasFailed(status = this.#addon.is_ready(this.#session)) {
+    return status === NUMBERS.REFUSED && this.#addon.reply[1] === NUMBERS.ERROR;
   }
 
   #one(status) {
@@ -90,8 +96,8 @@ class VM {
   }
 
   notifyError(error, related) {
-    const given = [lent.error('error', error), lent.command(related)];
-    this.#handIn(() => this.#addon.report_error(this.#session, ...given));
+    const [given, command] = [lent.error('error', error), lent.command(related)];
+    this.#handIn(given, () => this.#addon.report_error(this.#session, given, command));
   }
 
   takeOutput() {
@@ -276,8 +282,8 @@ class VM {
   }
 
   proposeRetryableFailure(handle, tookMillis, error, policy) {
-    const given = [lent.u32('handle', handle), lent.u64('tookMillis', tookMillis), lent.error('error', error), lent.policy(policy)];
-    this.#handIn(() => this.#addon.propose_retryable(this.#session, ...given));
+    const [run, took, given, under] = [lent.u32('handle', handle), lent.u64('tookMillis', tookMillis), lent.error('error', error), lent.policy(policy)];
+    this.#handIn(given, () => this.#addon.propose_retryable(this.#session, run, took, given, under));
   }
 
   sysWriteOutput(value, how) {

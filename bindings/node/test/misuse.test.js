@@ -4,7 +4,8 @@
 const assert = require('node:assert');
 const { test } = require('node:test');
 const { Worker } = require('node:worker_threads');
-const { CANCEL_HANDLE, Closed, Code, Journal, JournalMismatch, StatusError, Suspended, VM, VMError, allCompleted, firstCompleted, frames } = require('..');
+const palqytun = require('..');
+const { CANCEL_HANDLE, Closed, Code, Journal, JournalMismatch, StatusError, Suspended, VM, VMError, allCompleted, contentType, firstCompleted, frames } = palqytun;
 const { begun, fed } = require('./common');
 
 const status = (name) => (error) => error instanceof StatusError && error.status === name;
@@ -51,6 +52,7 @@ test('arguments of the wrong type are named', () => {
     [() => vm.proposeRunCompletion(17, Buffer.of(1), { kind: 'exponential', factor: [3] }), 'policy.factor must be a pair of numbers, not an array'],
     [() => vm.proposeRunCompletion(17, Buffer.of(1), { kind: 'exponential' }), 'policy.factor must be a pair of numbers, not undefined'],
     [() => new Journal().store('7', Buffer.of(1)), 'version must be a number, not string'],
+    [() => contentType('7'), 'version must be a number, not string'],
   ]) assert.throws(call, { name: 'TypeError', message });
   for (const [call, message] of [
     [() => vm.sysSleep(-1), /wakeUpMillis must be a whole number/],
@@ -65,6 +67,8 @@ test('arguments of the wrong type are named', () => {
     [() => vm.proposeRunCompletion(17, Buffer.of(1), { kind: 'exponential', factor: [-3, 2] }), /the numerator of policy.factor must be a whole number from 0 to 4294967295, not -3/],
     [() => new Journal().store(4, Buffer.of(1)), 'version must be a whole number from 5 to 8, not 4'],
     [() => new Journal().store(9, Buffer.of(1)), 'version must be a whole number from 5 to 8, not 9'],
+    [() => contentType(4), 'version must be a whole number from 5 to 8, not 4'],
+    [() => contentType(9), 'version must be a whole number from 5 to 8, not 9'],
   ]) assert.throws(call, { name: 'RangeError', message });
   assert.strictEqual(vm.lastCommandIndex(), 0);
 });
@@ -156,6 +160,18 @@ test('a failure that is the result of a run is not handed in', () => {
   vm.proposeRetryableFailure(run.handle, 1, { code: 598, message: '' }, { kind: 'none' });
   vm.sysEnd();
   assert.throws(() => vm.sysSleep(1), Closed);
+});
+
+test('an own error of a call that hands one in is own', () => {
+  for (const code of [418, Code.INTERNAL, Code.UNSUPPORTED_FEATURE]) {
+    const given = { code, message: 'mine', behavior: 'pause' };
+    const [old, vm] = [new VM(contentType(6)), begun()];
+    old.notifyError(given); // the version has no such behavior
+    assert.throws(() => old.sysEnd(), { message: '573 UNSUPPORTED_FEATURE: UnsupportedFeatureForNegotiatedVersion' });
+    const refused = { message: '500 INTERNAL: no pending run' };
+    assert.throws(() => vm.proposeRetryableFailure(99, 1, given), refused);
+    assert.throws(() => vm.sysEnd(), refused);
+  }
 });
 
 test('a journal, and what its rows ask for', () => {

@@ -7,8 +7,8 @@ module Palqytun
   # The versions of the messages that a VM may have.
   def self.supported_versions = ABI::MINIMUM_VERSION..ABI::MAXIMUM_VERSION
 
-  # The content type of a version.
-  def self.content_type(version) = "application/vnd.restate.invocation.v#{version}"
+  # The content type of a version, one of supported_versions.
+  def self.content_type(version) = "application/vnd.restate.invocation.v#{Arguments.version("version", version)}"
 
   # The library's version, the commit and the sum of the kit's logic that it was built of, and `proved` or `unproved`.
   def self.build = Library.ext.pq_build

@@ -194,6 +194,25 @@ class TestMisuse < Minitest::Test
     assert_raises(Closed) { vm.sys_sleep(1) }
   end
 
+  # The version has no such behavior, and nobody waits for the run.
+  def test_an_own_error_of_a_call_that_hands_one_in_is_own
+    [418, 500, 573].each do |code|
+      given = HandlerError.new(code: code, message: "mine", behavior: :pause)
+      old, vm = VM.new(Palqytun.content_type(6)), begun
+      old.notify_error(given)
+      refused(VMError, "573 UNSUPPORTED_FEATURE: UnsupportedFeatureForNegotiatedVersion") { old.sys_end }
+      refused(VMError, "500 INTERNAL: no pending run") { vm.propose_retryable_failure(99, 1, given) }
+      refused(VMError, "500 INTERNAL: no pending run") { vm.sys_end }
+    end
+  end
+
+  def test_the_content_type_of_a_version
+    assert_equal "application/vnd.restate.invocation.v8", Palqytun.content_type(8)
+    refused(ArgumentError, "version must be from 5 to 8, not 4") { Palqytun.content_type(4) }
+    refused(ArgumentError, "version must be from 5 to 8, not 9") { Palqytun.content_type(9) }
+    refused(TypeError, "version must be an Integer, not String") { Palqytun.content_type("7") }
+  end
+
   def test_a_journal_and_its_effects
     journal = Journal.new([Frames.frame_of('Input value="Till"'), Frames.frame_of("Sleep wake_up_time=1000 result_completion_id=1")])
     slept = Frames.frame_of("Notification id=completion(1) result=void")

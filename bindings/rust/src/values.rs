@@ -1,5 +1,6 @@
 //! What goes into the VM and comes out of it. What goes in is lent: nothing is kept once the call has returned.
 
+use crate::error::{ArgumentError, Result};
 use crate::sys::{
     self, AwaitingOnPolicy, CommandType, ErrorBehavior, ImplicitCancellation, JournalMismatchRetryBehavior,
     JournalReplay, NonDeterministicChecks, SignalDelivery,
@@ -28,13 +29,20 @@ pub const CANCEL_NOTIFICATION_HANDLE: NotificationHandle = NotificationHandle(sy
 /// The versions of the messages that a VM may have.
 pub const SUPPORTED_VERSIONS: RangeInclusive<u32> = sys::MINIMUM_VERSION..=sys::MAXIMUM_VERSION;
 
-/// The content type of a version.
+/// The content type of a version, one of [`SUPPORTED_VERSIONS`].
+///
+/// # Errors
+///
+/// [`Error::Argument`](crate::Error::Argument) if no VM has this version.
 ///
 /// ```
-/// assert_eq!(palqytun::content_type(7), "application/vnd.restate.invocation.v7");
+/// assert_eq!(palqytun::content_type(7)?, "application/vnd.restate.invocation.v7");
+/// assert_eq!(palqytun::content_type(9).unwrap_err().to_string(), "version must be from 5 to 8, not 9");
+/// # Ok::<(), palqytun::Error>(())
 /// ```
-pub fn content_type(version: u32) -> String {
-    format!("application/vnd.restate.invocation.v{}", version)
+pub fn content_type(version: u32) -> Result<String> {
+    ArgumentError::within("version", version, sys::MINIMUM_VERSION, sys::MAXIMUM_VERSION)?;
+    Ok(format!("application/vnd.restate.invocation.v{}", version))
 }
 
 /// What a VM is asked to do in another way.

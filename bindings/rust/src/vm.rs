@@ -113,8 +113,8 @@ impl Vm {
     /// The handler failed by an error of its own, which fails the VM; one that has failed keeps its first error. Each later call returns it, and
     /// it is none of the VM's own errors, with any code: [`Error::is_closed`] and the others are false.
     pub fn notify_error(&mut self, error: &HandlerError<'_>, related: Option<RelatedCommand<'_>>) -> Result<()> {
-        let (error, command) = (lent::error(error), lent::command(&related));
-        self.hand_in(|it, vm| unsafe { (it.report_error)(vm, &error, &command) })
+        let (lent, command) = (lent::error(error), lent::command(&related));
+        self.hand_in(error, |it, vm| unsafe { (it.report_error)(vm, &lent, &command) })
     }
 
     /// Takes all bytes that wait to be sent: whole frames.
@@ -396,8 +396,8 @@ impl Vm {
                 self.nothing(|it, vm| unsafe { (it.propose)(vm, handle.into(), &value, &policy) })
             }
             RunResult::RetryableFailure { attempt_duration_millis: took, error } => {
-                let error = lent::error(error);
-                self.hand_in(|it, vm| unsafe { (it.propose_retryable)(vm, handle.into(), *took, &error, &policy) })
+                let lent = lent::error(error);
+                self.hand_in(error, |it, vm| unsafe { (it.propose_retryable)(vm, handle.into(), *took, &lent, &policy) })
             }
         }
     }
@@ -419,6 +419,11 @@ impl Vm {
     /// Makes a typed call. What `call` lends is valid until it returns.
     fn made(&mut self, call: impl FnOnce(&sys::Functions, Handle) -> Replied) -> Result<Replied> {
         let replied = call(&self.library.functions, self.handle);
+        self.outcome(replied)
+    }
+
+    /// What a typed call returns that replied this.
+    fn outcome(&self, replied: Replied) -> Result<Replied> {
         match replied.status {
             sys::DONE => Ok(replied),
             sys::REFUSED => Err(Error::Vm(Box::new(self.refusal(&replied)?))),
@@ -430,22 +435,36 @@ impl Vm {
         self.made(call).map(|_| ())
     }
 
-    /// Makes a call that hands in an error. A VM that fails by this call fails by that error.
-    fn hand_in(&mut self, call: impl FnOnce(&sys::Functions, Handle) -> Replied) -> Result<()> {
-        if self.has_failed() {
+    /// Makes a call that hands in this error. If the VM fails by it, each later call is refused by it; a VM that had failed keeps its first error.
+    fn hand_in(
+        &mut self,
+        given: &HandlerError<'_>,
+        call: impl FnOnce(&sys::Functions, Handle) -> Replied,
+    ) -> Result<()> {
+        if is_failure(&self.ready()) {
             return self.nothing(call);
         }
-        self.failed_by_handed_in = true;
-        let made = self.nothing(call);
-        self.failed_by_handed_in = self.has_failed();
-        made
+        let replied = call(&self.library.functions, self.handle);
+        self.failed_by_handed_in = self.has_failed_by(given, &replied)?;
+        self.outcome(replied).map(|_| ())
     }
 
-    /// Whether the VM has failed: only then an error that it returns is of this kind.
-    fn has_failed(&mut self) -> bool {
+    /// Whether the VM has failed by this error, after a call with this reply that handed it in. It may also have failed by one of its own, which
+    /// says something else: the version has no such behavior, nobody waits for the run, or no memory was found.
+    fn has_failed_by(&self, given: &HandlerError<'_>, replied: &Replied) -> Result<bool> {
+        let ready;
+        let after = if replied.status == sys::REFUSED {
+            replied
+        } else {
+            ready = self.ready();
+            &ready
+        };
+        Ok(is_failure(after) && after.number == u64::from(given.code) && self.text(0)? == given.message)
+    }
+
+    fn ready(&self) -> Replied {
         // SAFETY: the handle is that of this VM.
-        let replied = unsafe { (self.library.functions.is_ready)(self.handle) };
-        replied.status == sys::REFUSED && replied.kind == sys::ERROR
+        unsafe { (self.library.functions.is_ready)(self.handle) }
     }
 
     fn flag(&mut self, call: impl FnOnce(&sys::Functions, Handle) -> Replied) -> Result<bool> {
@@ -538,4 +557,9 @@ pub(crate) fn may_be_written(call: impl Fn(*mut u8, usize) -> Told) -> Result<Op
 /// What a call writes to a room.
 pub(crate) fn written(call: impl Fn(*mut u8, usize) -> Told) -> Result<Vec<u8>> {
     Ok(may_be_written(call)?.unwrap_or_default())
+}
+
+/// Whether it is an error by which the VM has failed: only then it is of this kind.
+fn is_failure(replied: &Replied) -> bool {
+    replied.status == sys::REFUSED && replied.kind == sys::ERROR
 }

@@ -263,6 +263,23 @@ fn a_failure_that_is_the_result_of_a_run_is_not_handed_in() {
     assert!(vm.sys_sleep("", 1).unwrap_err().is_closed());
 }
 
+/// The version has no such behavior, and nobody waits for the run.
+#[test]
+fn an_own_error_of_a_call_that_hands_one_in_is_own() {
+    for code in [418, 500, 573] {
+        let given = HandlerError { code, message: "mine", behavior: palqytun::ErrorBehavior::Pause, ..LATER };
+        let mut old = Vm::new(palqytun::content_type(6).unwrap().as_str(), &Options::default()).unwrap();
+        old.notify_error(&given, None).unwrap();
+        let error = old.sys_end().unwrap_err();
+        assert_eq!(error.to_string(), "573 UnsupportedFeature: UnsupportedFeatureForNegotiatedVersion");
+        let (mut vm, failed) = (begun(), RunResult::RetryableFailure { attempt_duration_millis: 1, error: given });
+        let handle = NotificationHandle::from(99);
+        let error = vm.propose_run_completion(handle, &failed, &RetryPolicy::Infinite).unwrap_err();
+        assert_eq!(error.to_string(), "500 Internal: no pending run");
+        assert_eq!(vm.sys_end(), Err(error));
+    }
+}
+
 #[test]
 fn a_call_after_the_end() {
     let mut vm = begun();

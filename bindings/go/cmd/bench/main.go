@@ -38,7 +38,7 @@ func must[T any](it T, err error) T {
 }
 
 func begun() *palqytun.VM {
-	vm := must(palqytun.New(palqytun.ContentType(7), palqytun.Options{}))
+	vm := must(palqytun.New(must(palqytun.ContentType(7)), palqytun.Options{}))
 	for _, line := range []string{`Start id="abc" debug_id="abc" known_entries=1`, `Input value="Till"`} {
 		must(0, vm.NotifyInput(must(palqytun.FrameOf(line))))
 	}

@@ -73,7 +73,10 @@ module Palqytun
 
     # The handler failed by an error of its own, which fails the VM; one that has failed keeps its first error. Each later call raises it as a
     # VMError of no other class, with any code.
-    def notify_error(error, related: nil) = hand_in(:pq_report_error, A.error(error), A.command(related))
+    def notify_error(error, related: nil)
+      given = A.error(error)
+      hand_in(given, :pq_report_error, given, A.command(related))
+    end
 
     # Takes all bytes that wait to be sent: whole frames.
     def take_output
@@ -222,8 +225,8 @@ module Palqytun
 
     # A try of a run failed after this many milliseconds, and may be made again.
     def propose_retryable_failure(handle, took_millis, error, policy: RetryPolicy.new(kind: :infinite))
-      given = [A.u32("handle", handle), A.u64("took_millis", took_millis), A.error(error), A.policy(policy)]
-      hand_in(:pq_propose_retryable, *given)
+      run, took, given = A.u32("handle", handle), A.u64("took_millis", took_millis), A.error(error)
+      hand_in(given, :pq_propose_retryable, run, took, given, A.policy(policy))
     end
 
     # The handler's result, a String or a Failure.
@@ -243,20 +246,27 @@ module Palqytun
       end
     end
 
-    # Makes a call that hands in an error. A VM that fails by this call fails by that error.
-    def hand_in(name, *given)
+    # Makes a call that hands in this error. If the VM fails by it, each later call is refused by it; a VM that had failed keeps its first error.
+    def hand_in(error, name, *given)
       @guard.synchronize do
-        is_first = !failed?
-        @failed_by_handed_in ||= is_first
+        had_failed = failure?(ready)
         replied = @ext.public_send(name, @handle, *given)
+        @failed_by_handed_in = failed_by?(error, replied) unless had_failed
         refuse(replied) unless replied.first == ABI::DONE
-      ensure
-        @failed_by_handed_in = failed? if is_first
       end
     end
 
-    # Whether the VM has failed: only then an error that it returns is of this kind.
-    def failed? = @ext.pq_is_ready(@handle).first(2) == [ABI::REFUSED, ABI::ERROR]
+    # Whether the VM has failed by this error, after a call with this reply that handed it in. It may also have failed by one of its own, which says
+    # something else: the version has no such behavior, nobody waits for the run, or no memory was found.
+    def failed_by?(error, replied)
+      after = replied.first == ABI::REFUSED ? replied : ready
+      failure?(after) && after[5] == error[:code] && text(0).to_s == error[:message]
+    end
+
+    def ready = @ext.pq_is_ready(@handle)
+
+    # Whether it is an error by which the VM has failed.
+    def failure?(replied) = replied.first(2) == [ABI::REFUSED, ABI::ERROR]
 
     def one(name, *given) = call(name, *given) { |it| it[2] }
 

@@ -55,6 +55,9 @@ public final class TestMisuse {
         String allowed = "the content type must be application/vnd.restate.invocation.vN with N from 5 to 8";
         Common.equal("415 UNSUPPORTED_MEDIA_TYPE: BadContentType (" + allowed + ")", error.getMessage());
         Common.equal(415, Common.thrown(VMException.class, () -> new VM(null)).code());
+        Common.equal("application/vnd.restate.invocation.v8", Palqytun.contentType(8));
+        Common.refused(IllegalArgumentException.class, "version must be from 5 to 8, not 4", () -> Palqytun.contentType(4));
+        Common.refused(IllegalArgumentException.class, "version must be from 5 to 8, not 9", () -> Palqytun.contentType(9));
     }
 
     private static void whatErrorsSay() {
@@ -228,6 +231,19 @@ public final class TestMisuse {
         Common.thrown(VMException.Closed.class, () -> vm.sysSleep(1));
     }
 
+    /** The version has no such behavior, and nobody waits for the run. */
+    private static void anOwnErrorOfACallThatHandsInIsOwn() {
+        for (int code : new int[] {418, 500, 573}) {
+            HandlerError given = new HandlerError(code, "mine", "", ErrorBehavior.PAUSE, null);
+            VM old = new VM(Palqytun.contentType(6));
+            old.notifyError(given);
+            Common.refused(VMException.class, "573 UNSUPPORTED_FEATURE: UnsupportedFeatureForNegotiatedVersion", old::sysEnd);
+            VM vm = Common.begun();
+            Common.refused(VMException.class, "500 INTERNAL: no pending run", () -> vm.proposeRetryableFailure(99, 1, given, RetryPolicy.INFINITE));
+            Common.refused(VMException.class, "500 INTERNAL: no pending run", vm::sysEnd);
+        }
+    }
+
     private static void aJournalAndItsEffects() {
         Journal journal = new Journal(List.of(Frames.frameOf("Input value=\"Till\""), Frames.frameOf("Sleep wake_up_time=1000 result_completion_id=1")));
         byte[] slept = Frames.frameOf("Notification id=completion(1) result=void");
@@ -275,6 +291,7 @@ public final class TestMisuse {
         Common.test("errors that are handed in are plain", TestMisuse::errorsThatAreHandedInArePlain);
         Common.test("an error after a failure is not handed in", TestMisuse::anErrorAfterAFailureIsNotHandedIn);
         Common.test("a failure that is the result of a run is not handed in", TestMisuse::aFailureThatIsTheResultOfARunIsNotHandedIn);
+        Common.test("an own error of a call that hands one in is own", TestMisuse::anOwnErrorOfACallThatHandsInIsOwn);
         Common.test("a journal and its effects", TestMisuse::aJournalAndItsEffects);
         Common.test("frames", TestMisuse::frames);
         Common.end();

@@ -13,9 +13,9 @@ public final class Palqytun {
 
     private Palqytun() {}
 
-    /** The content type of a version. */
+    /** The content type of a version, from {@link #MINIMUM_VERSION} to {@link #MAXIMUM_VERSION}. */
     public static String contentType(int version) {
-        return "application/vnd.restate.invocation.v" + version;
+        return "application/vnd.restate.invocation.v" + Given.version("version", version);
     }
 
     /** The library's version, the commit and the sum of the kit's logic that it was built of, and {@code proved} or {@code unproved}. */

@@ -101,7 +101,7 @@ public final class VM implements AutoCloseable {
 
     /** The same, with the command that it relates to. */
     public synchronized void notifyError(HandlerError error, RelatedCommand related) {
-        handIn(() -> Calls.report_error(at(), Given.error(error), Given.command(related)));
+        handIn(error, () -> Calls.report_error(at(), Given.error(error), Given.command(related)));
     }
 
     /** Takes all bytes that wait to be sent: whole frames. */
@@ -357,7 +357,7 @@ public final class VM implements AutoCloseable {
 
     /** A try of a run failed after this many milliseconds, and may be made again. */
     public synchronized void proposeRetryableFailure(int run, long tookMillis, HandlerError error, RetryPolicy policy) {
-        handIn(() -> Calls.propose_retryable(at(), Given.u32(run), tookMillis, Given.error(error), Given.policy(policy)));
+        handIn(error, () -> Calls.propose_retryable(at(), Given.u32(run), tookMillis, Given.error(error), Given.policy(policy)));
     }
 
     /** The handler's result. */
@@ -397,22 +397,31 @@ public final class VM implements AutoCloseable {
         throw VMException.of(it[KIND], failedByHandedIn, (int) it[NUMBER], orEmpty(text(0)), orEmpty(text(1)), related);
     }
 
-    /** Makes a call that hands in an error. A VM that fails by this call fails by that error. */
-    private void handIn(Supplier<Object> call) {
-        boolean isFirst = !hasFailed();
-        failedByHandedIn |= isFirst;
-        try {
-            done(call.get());
-        } finally {
-            if (isFirst) {
-                failedByHandedIn = hasFailed();
-            }
+    /** Makes a call that hands in this error. If the VM fails by it, each later call is refused by it; a VM that had failed keeps its first error. */
+    private void handIn(HandlerError given, Supplier<Object> call) {
+        boolean hadFailed = isFailure(ready());
+        long[] it = (long[]) call.get();
+        if (!hadFailed) {
+            failedByHandedIn = hasFailedBy(given, it);
         }
+        done(it);
     }
 
-    /** Whether the VM has failed: only then an error that it returns is of this kind. */
-    private boolean hasFailed() {
-        long[] it = (long[]) Calls.is_ready(at());
+    /**
+     * Whether the VM has failed by this error, after a call with this reply that handed it in. It may also have failed by one of its own, which says
+     * something else: the version has no such behavior, nobody waits for the run, or no memory was found.
+     */
+    private boolean hasFailedBy(HandlerError given, long[] replied) {
+        long[] it = replied[STATUS] == Abi.REFUSED ? replied : ready();
+        return isFailure(it) && it[NUMBER] == given.code() && orEmpty(text(0)).equals(given.message());
+    }
+
+    private long[] ready() {
+        return (long[]) Calls.is_ready(at());
+    }
+
+    /** Whether it is an error by which the VM has failed. */
+    private static boolean isFailure(long[] it) {
         return it[STATUS] == Abi.REFUSED && it[KIND] == Abi.ERROR;
     }
 
