@@ -818,6 +818,19 @@ palqytun_told palqytun_input_frame(
 palqytun_told palqytun_difference(const uint8_t *recorded, size_t recorded_len, const uint8_t *asked, size_t asked_len, bool ignore_payloads,
     uint8_t *out, size_t out_len);
 
+/* ---- What numbers say
+
+   The texts are the library's own, and end with a 0. NULL: no status, or no code of the VM's own errors, has this number. */
+
+/* The name of a status: "NO_MEMORY". */
+const char *palqytun_status_name(uint32_t status);
+
+/* What a status says: "no memory was found". */
+const char *palqytun_status_text(uint32_t status);
+
+/* The name of a code: "JOURNAL_MISMATCH". An error that a handler has reported may have the same code: it isn't the VM's own. */
+const char *palqytun_code_name(uint32_t code);
+
 /* ---- Which library this is */
 
 /* The number of the library's interface: PALQYTUN_ABI of the header that it was built with. */

@@ -401,13 +401,12 @@ uint32_t pq_frame_part(const uint8_t *frame, size_t frame_len, size_t at, uint8_
 uint32_t pq_value_frame(const uint8_t *value, size_t value_len, uint8_t *out, size_t out_len, palqytun_told *returned);
 uint32_t pq_input_frame(const uint8_t *frame, size_t frame_len, const uint8_t *value, size_t value_len, uint8_t *out, size_t out_len, palqytun_told *returned);
 uint32_t pq_difference(const uint8_t *recorded, size_t recorded_len, const uint8_t *asked, size_t asked_len, bool ignore_payloads, uint8_t *out, size_t out_len, palqytun_told *returned);
+const char *pq_status_name(uint32_t status);
+const char *pq_status_text(uint32_t status);
+const char *pq_code_name(uint32_t code);
 uint32_t pq_abi(void);
 const char *pq_version(void);
 const char *pq_build(void);
 bool pq_is_proved(void);
-
-/* The name of a status, and what it says; NULL of a number that none has. */
-const char *pq_status_name(uint32_t status);
-const char *pq_status_text(uint32_t status);
 
 #endif

@@ -11,7 +11,7 @@ from pathlib import Path
 
 from tools.kit.errors import Refused
 
-from . import between, flat, glue, go, java, loading, node, python, ruby, rust, sources, text
+from . import between, flat, glue, go, java, loading, naming, node, python, ruby, rust, sources, text, words
 from .header import HEADER, Header, read_header
 
 OWN_STATUSES = {"PALQYTUN_BUSY", "PALQYTUN_BAD_HANDLE", "PALQYTUN_BAD_POINTER"}
@@ -26,6 +26,7 @@ def written(top: Path, header: Header) -> dict[str, str]:
         "bindings/calls.c": between.calls(exports),
         flat.HEADER: flat.declared(header),
         flat.CODE: flat.code(header),
+        naming.CODE: naming.code_of(header),
         text.TEXT: text.text_of(header),
         python.MODULE: python.module_of(header),
         python.STRUCTS: python.structs_of(header),
@@ -56,6 +57,16 @@ def write(top: Path) -> list[str]:
     return changed
 
 
+def unsaid(top: Path) -> Iterator[str]:
+    """Yields what the text of the interface had under its number in a commit, and has no more. Where there is no history nothing is compared."""
+    ran = subprocess.run(["git", "log", "--format=%H", "--", text.TEXT], cwd=top, capture_output=True, text=True)
+    now = (top / text.TEXT).read_text(encoding="utf-8")
+    for commit in ran.stdout.split():
+        before = subprocess.run(["git", "show", f"{commit}:./{text.TEXT}"], cwd=top, capture_output=True, text=True).stdout
+        if lost := text.broken(before, now):
+            yield "\n".join([f"{text.TEXT} isn't what it was in commit {commit[:12]}, but PALQYTUN_ABI is the same:", *lost])
+
+
 def stale(top: Path, header: Header) -> Iterator[str]:
     """Yields what differs in the files that the command writes."""
     for name, wanted in written(top, header).items():
@@ -75,6 +86,8 @@ def misnumbered(top: Path, header: Header) -> Iterator[str]:
     named = {number for name, number in found.items() if name.startswith("PALQYTUN_CODE_")}
     if named != sources.codes(top):
         yield f"palqytun.h names the codes {sorted(named)}, and the sources have {sorted(sources.codes(top))}"
+    if dict(words.codes(header)) != sources.code_names(top):
+        yield f"palqytun.h has the names of codes {dict(words.codes(header))}, and crates/{sources.NAMES} has {sources.code_names(top)}"
     versions = tuple(found.get(f"PALQYTUN_{name}_VERSION") for name in ("MINIMUM", "MAXIMUM"))
     if versions != sources.versions(top):
         yield f"palqytun.h has the versions {versions}, and the sources have {sources.versions(top)}"

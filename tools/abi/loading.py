@@ -109,9 +109,7 @@ def header_of(header: Header) -> str:
     for name, fields in header.structs.items():
         parts.append("\n".join(["typedef struct {", *(f"    {_declared(ty, field)};" for ty, field in fields), f"}} {name};", ""]))
     parts.append(ABOUT_LOAD.lstrip("\n"))
-    parts += [f"{_head(it)};" for it in header.functions.values()]
-    parts.append("\n/* The name of a status, and what it says; NULL of a number that none has. */")
-    parts.append("const char *pq_status_name(uint32_t status);\nconst char *pq_status_text(uint32_t status);\n\n#endif\n")
+    parts += [*(f"{_head(it)};" for it in header.functions.values()), "\n#endif\n"]
     return "\n".join(parts)
 
 
@@ -139,7 +137,4 @@ def code_of(header: Header) -> str:
     load = load.replace("NUMBER", str(header.numbers["PALQYTUN_ABI"])).replace('"LIBRARY"', f'"{words.soname(header)}"')
     parts.append(load)
     parts += [_function(it) for it in header.functions.values()]
-    for what, place in (("name", 0), ("text", 2)):
-        cases = [f'    case {row[1]}:\n        return "{row[place]}";' for row in words.statuses(header)]
-        parts.append("\n".join([f"const char *pq_status_{what}(uint32_t status)", "{", "    switch (status) {", *cases, "    default:", "        return NULL;", "    }", "}", ""]))
     return "\n".join(parts)

@@ -123,6 +123,7 @@ TABLES = (
 )
 CODES = "journal_errors/src/faults.rt"
 VERSIONS = "journal_errors/src/version.rt"
+NAMES = "call_details/src/codes.rt"
 
 
 def enumerators(top: Path) -> dict[str, int]:
@@ -144,6 +145,12 @@ def codes(top: Path) -> set[int]:
     text = (top / "crates" / CODES).read_text(encoding="utf-8")
     body = text[text.index("pub fn code(") :]
     return {int(it) for it in re.findall(r"=>\s*(\d{3})\b", body[: body.index("\n    }\n")])}
+
+
+def code_names(top: Path) -> dict[str, int]:
+    """The names that programs give to codes, with `--details`."""
+    text = (top / "crates" / NAMES).read_text(encoding="utf-8")
+    return {name: int(number) for number, name in re.findall(r'(\d+) => Some\("(\w+)"\)', text)}
 
 
 def versions(top: Path) -> tuple[int, ...]:

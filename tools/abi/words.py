@@ -103,6 +103,12 @@ def statuses(header: Header) -> list[tuple[str, int, str]]:
     return [(name, number, TEXTS[name]) for number, name in sorted(found.items())]
 
 
+def codes(header: Header) -> list[tuple[str, int]]:
+    """The codes of the VM's own errors: the name and the number of each."""
+    found = ((plain(it), number) for it, number in header.enumerators.items())
+    return [(it.removeprefix("CODE_"), number) for it, number in found if it.startswith("CODE_")]
+
+
 def soname(header: Header) -> str:
     """The name by which the library is looked for."""
     return f"{LIBRARY}.{header.numbers['PALQYTUN_ABI']}"

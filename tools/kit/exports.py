@@ -13,8 +13,10 @@ from pathlib import Path
 from .errors import Refused
 
 PREFIX = "lowered_"
-ABOUT = {"palqytun_abi", "palqytun_build", "palqytun_is_proved", "palqytun_version"}
-"""What a library says of itself: `bindings/about.c` has these functions."""
+NAMES = {"palqytun_code_name", "palqytun_status_name", "palqytun_status_text"}
+"""What numbers say: `bindings/names.c` has these functions."""
+ABOUT = {"palqytun_abi", "palqytun_build", "palqytun_is_proved", "palqytun_version", *NAMES}
+"""What a library says of itself and of its numbers: `bindings/about.c` has the functions of the former."""
 NUMBERS = {"u8": "i8", "u16": "i16", "u32": "i32", "u64": "i64", "usize": "i64", "bool": "i1"}
 """The numbers, with the types that LLVM gives them."""
 

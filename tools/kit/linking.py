@@ -25,8 +25,8 @@ CC = ["cc", "-std=c11", "-O1", "-fPIC", "-fvisibility=default"]
 SHARED = ["-shared", "-Wl,--no-undefined", "-Wl,-z,noexecstack", "-Wl,--gc-sections"]
 HEADERS = ("palqytun.h", "palqytun_flat.h")
 """What is declared to callers, in `bindings`."""
-BETWEEN = ("handles.c", "lending.c", "calls.c", "flat.c")
-"""The C code between the header's functions and the proved calls, in `bindings`."""
+BETWEEN = ("handles.c", "lending.c", "calls.c", "flat.c", "names.c")
+"""The C code between the header's functions and the proved calls, and what numbers say, in `bindings`."""
 
 
 def need(*tools: str) -> None:

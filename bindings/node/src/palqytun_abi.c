@@ -80,6 +80,9 @@ static struct {
     uint32_t (*value_frame)(const uint8_t *, size_t, uint8_t *, size_t, palqytun_told *);
     uint32_t (*input_frame)(const uint8_t *, size_t, const uint8_t *, size_t, uint8_t *, size_t, palqytun_told *);
     uint32_t (*difference)(const uint8_t *, size_t, const uint8_t *, size_t, bool, uint8_t *, size_t, palqytun_told *);
+    const char * (*status_name)(uint32_t);
+    const char * (*status_text)(uint32_t);
+    const char * (*code_name)(uint32_t);
     uint32_t (*abi)(void);
     const char * (*version)(void);
     const char * (*build)(void);
@@ -227,6 +230,12 @@ static bool loads(void *object, const char **lacks)
         is_whole = false, *lacks = "palqytun_flat_input_frame";
     if ((*(void **)&it.difference = dlsym(object, "palqytun_flat_difference")) == NULL)
         is_whole = false, *lacks = "palqytun_flat_difference";
+    if ((*(void **)&it.status_name = dlsym(object, "palqytun_status_name")) == NULL)
+        is_whole = false, *lacks = "palqytun_status_name";
+    if ((*(void **)&it.status_text = dlsym(object, "palqytun_status_text")) == NULL)
+        is_whole = false, *lacks = "palqytun_status_text";
+    if ((*(void **)&it.code_name = dlsym(object, "palqytun_code_name")) == NULL)
+        is_whole = false, *lacks = "palqytun_code_name";
     if ((*(void **)&it.abi = dlsym(object, "palqytun_abi")) == NULL)
         is_whole = false, *lacks = "palqytun_abi";
     if ((*(void **)&it.version = dlsym(object, "palqytun_version")) == NULL)
@@ -630,6 +639,21 @@ uint32_t pq_difference(const uint8_t *recorded, size_t recorded_len, const uint8
     return it.difference(recorded, recorded_len, asked, asked_len, ignore_payloads, out, out_len, returned);
 }
 
+const char *pq_status_name(uint32_t status)
+{
+    return it.status_name(status);
+}
+
+const char *pq_status_text(uint32_t status)
+{
+    return it.status_text(status);
+}
+
+const char *pq_code_name(uint32_t code)
+{
+    return it.code_name(code);
+}
+
 uint32_t pq_abi(void)
 {
     return it.abi();
@@ -648,132 +672,4 @@ const char *pq_build(void)
 bool pq_is_proved(void)
 {
     return it.is_proved();
-}
-
-const char *pq_status_name(uint32_t status)
-{
-    switch (status) {
-    case 0:
-        return "DONE";
-    case 1:
-        return "NO_MEMORY";
-    case 2:
-        return "NO_SESSION";
-    case 3:
-        return "NO_VM";
-    case 4:
-        return "NO_ROOM";
-    case 5:
-        return "REFUSED";
-    case 6:
-        return "BAD_TEXT";
-    case 7:
-        return "BAD_TREE";
-    case 8:
-        return "BAD_NUMBER";
-    case 9:
-        return "NO_PART";
-    case 10:
-        return "BAD_OUTPUT";
-    case 11:
-        return "NOT_A_NOTIFICATION";
-    case 12:
-        return "NO_SUCH_ID";
-    case 13:
-        return "SECOND_COMPLETION";
-    case 14:
-        return "WRONG_KIND";
-    case 15:
-        return "RUN_IS_PROPOSED";
-    case 16:
-        return "JOURNAL_FULL";
-    case 17:
-        return "BAD_JOURNAL";
-    case 18:
-        return "NOT_A_FRAME";
-    case 19:
-        return "BAD_LINE";
-    case 20:
-        return "NO_RESULT";
-    case 21:
-        return "NOT_A_SUSPENSION";
-    case 22:
-        return "NO_JOURNAL";
-    case 23:
-        return "NO_ROW";
-    case 24:
-        return "NOT_FRAMES";
-    case 25:
-        return "BUSY";
-    case 26:
-        return "BAD_HANDLE";
-    case 27:
-        return "BAD_POINTER";
-    default:
-        return NULL;
-    }
-}
-
-const char *pq_status_text(uint32_t status)
-{
-    switch (status) {
-    case 0:
-        return "the call was made";
-    case 1:
-        return "no memory was found";
-    case 2:
-        return "the VM was closed";
-    case 3:
-        return "there is no VM";
-    case 4:
-        return "the buffer is too short";
-    case 5:
-        return "the VM refused the call";
-    case 6:
-        return "a text isn't UTF-8";
-    case 7:
-        return "the nodes aren't one tree";
-    case 8:
-        return "a number names no case of what it is to name";
-    case 9:
-        return "there is no such part";
-    case 10:
-        return "the output isn't whole frames";
-    case 11:
-        return "it isn't one whole frame of a notification";
-    case 12:
-        return "no stored command has the completion id";
-    case 13:
-        return "the completion id was completed before";
-    case 14:
-        return "the id of an invocation is completed by something else";
-    case 15:
-        return "the result of a run is proposed by the attempt that ran it";
-    case 16:
-        return "the journal is full";
-    case 17:
-        return "it isn't one whole frame of a command or a notification, or the first one isn't an Input";
-    case 18:
-        return "it isn't one whole frame";
-    case 19:
-        return "the line has no meaning";
-    case 20:
-        return "the frame has no result";
-    case 21:
-        return "the frame isn't one of a suspension";
-    case 22:
-        return "the journal was closed";
-    case 23:
-        return "the last store has no such row";
-    case 24:
-        return "the notifications aren't whole frames";
-    case 25:
-        return "a call of another thread has not ended; let a lock guard it";
-    case 26:
-        return "the handle is of something else";
-    case 27:
-        return "a pointer is NULL that may not be";
-    default:
-        return NULL;
-    }
 }

@@ -892,6 +892,9 @@ functions! {
     value_frame = "palqytun_value_frame\0": (*const u8, usize, *mut u8, usize) -> Told;
     input_frame = "palqytun_input_frame\0": (*const u8, usize, *const u8, usize, *mut u8, usize) -> Told;
     difference = "palqytun_difference\0": (*const u8, usize, *const u8, usize, bool, *mut u8, usize) -> Told;
+    status_name = "palqytun_status_name\0": (u32) -> *const c_char;
+    status_text = "palqytun_status_text\0": (u32) -> *const c_char;
+    code_name = "palqytun_code_name\0": (u32) -> *const c_char;
     abi = "palqytun_abi\0": () -> u32;
     version = "palqytun_version\0": () -> *const c_char;
     build = "palqytun_build\0": () -> *const c_char;

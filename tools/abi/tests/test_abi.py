@@ -1,10 +1,12 @@
 """The interface for C is compared with its sources, and changes only with its number."""
 
+import re
+import subprocess
 import tempfile
 import unittest
 from pathlib import Path
 
-from tools.abi import between, checks, sources, text, words
+from tools.abi import between, checks, naming, sources, text, words
 from tools.abi.header import HEADER, Header, read_header
 from tools.kit.errors import Refused
 
@@ -64,6 +66,16 @@ class Numbers(unittest.TestCase):
         header = self.read(self.header.replace("PALQYTUN_CODE_CLOSED = 598", "PALQYTUN_CODE_CLOSED = 597"))
         self.assertIn("names the codes", next(checks.misnumbered(TOP, header)))
 
+    def test_a_code_of_another_name(self) -> None:
+        header = self.read(self.header.replace("PALQYTUN_CODE_CLOSED = 598", "PALQYTUN_CODE_ENDED = 598"))
+        self.assertIn("has the names of codes", next(checks.misnumbered(TOP, header)))
+
+    def test_what_numbers_say_in_c(self) -> None:
+        code = naming.code_of(read_header(TOP / HEADER))
+        self.assertIn('case 1:\n        return "NO_MEMORY";', code)
+        self.assertIn('case 1:\n        return "no memory was found";', code)
+        self.assertIn('case 570:\n        return "JOURNAL_MISMATCH";', code)
+
     def test_versions_that_the_vm_has_not(self) -> None:
         header = self.read(self.header.replace("PALQYTUN_MAXIMUM_VERSION = 8", "PALQYTUN_MAXIMUM_VERSION = 9"))
         self.assertIn("has the versions (5, 9), and the sources have (5, 8)", next(checks.misnumbered(TOP, header)))
@@ -101,6 +113,51 @@ class Changes(unittest.TestCase):
             changed = self.OLD.replace(old, new)
             self.assertEqual(text.broken(self.OLD, changed), lost)
             self.assertEqual(text.broken(self.OLD, changed.replace("abi 1", "abi 2")), [])
+
+
+class History(unittest.TestCase):
+    """The text may lose no line that it had in a commit, also if it was written by hand."""
+
+    OLD = Changes.OLD
+
+    def setUp(self) -> None:
+        self.room = Path(self.enterContext(tempfile.TemporaryDirectory()))
+        (self.room / "bindings").mkdir()
+
+    def git(self, *words: str) -> None:
+        subprocess.run(["git", "-c", "user.name=a", "-c", "user.email=a", "-c", "commit.gpgsign=false", *words], cwd=self.room, check=True, capture_output=True)
+
+    def write(self, text_of_it: str) -> list[str]:
+        (self.room / text.TEXT).write_text(text_of_it, encoding="utf-8")
+        return list(checks.unsaid(self.room))
+
+    def test_a_line_of_a_commit_stays(self) -> None:
+        self.assertEqual(self.write(self.OLD), [])  # no history
+        self.git("init", "-q")
+        for said in (self.OLD, self.OLD + "number M 2\n"):
+            self.assertEqual(self.write(said), [])
+            self.git("add", "-A")
+            self.git("commit", "-qm", "one")
+        (said,) = self.write(self.OLD)
+        self.assertTrue(said.endswith("but PALQYTUN_ABI is the same:\nnumber M 2"), said)
+        self.assertEqual(len(self.write(self.OLD.replace("N 1", "N 2"))), 2)
+        self.assertEqual(self.write(self.OLD.replace("abi 1", "abi 2").replace("N 1", "N 2")), [])
+
+    def test_the_repository(self) -> None:
+        self.assertEqual(list(checks.unsaid(TOP)), [])
+
+
+class Races(unittest.TestCase):
+    def test_each_call_of_a_handle_races(self) -> None:
+        """bindings/misuse.c has each function that takes a handle, as a macro's argument or as it is."""
+        code = (TOP / "bindings/misuse.c").read_text(encoding="utf-8")
+        raced = set(re.findall(r"return palqytun_(\w+)\(shared", code)) | set(re.findall(r"\b(?:PLAIN|TYPED|STORED)\((\w+)", code))
+        header = read_header(TOP / HEADER)
+        taking = {it.name.removeprefix("palqytun_") for it in header.functions.values() if it.parameters and it.parameters[0][0].endswith(("_vm *", "_journal *"))}
+        self.assertEqual(taking - raced, set())
+        rows = re.findall(r"\bdo_\w+", code[code.index("(*const calls[])") : code.index("enum { FEW")])
+        self.assertEqual(len(rows), len(set(rows)))
+        self.assertEqual(len(taking) + 1, len(rows) + 2)  # the table has one with a handle of another kind, and neither close, which race beside it
 
 
 class Between(unittest.TestCase):

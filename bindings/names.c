@@ -1,0 +1,155 @@
+/* What the numbers of palqytun.h say. */
+/* tools/header --write writes this file, from palqytun.h and tools/abi/words.py. */
+#include "palqytun.h"
+
+const char *palqytun_status_name(uint32_t status)
+{
+    switch (status) {
+    case 0:
+        return "DONE";
+    case 1:
+        return "NO_MEMORY";
+    case 2:
+        return "NO_SESSION";
+    case 3:
+        return "NO_VM";
+    case 4:
+        return "NO_ROOM";
+    case 5:
+        return "REFUSED";
+    case 6:
+        return "BAD_TEXT";
+    case 7:
+        return "BAD_TREE";
+    case 8:
+        return "BAD_NUMBER";
+    case 9:
+        return "NO_PART";
+    case 10:
+        return "BAD_OUTPUT";
+    case 11:
+        return "NOT_A_NOTIFICATION";
+    case 12:
+        return "NO_SUCH_ID";
+    case 13:
+        return "SECOND_COMPLETION";
+    case 14:
+        return "WRONG_KIND";
+    case 15:
+        return "RUN_IS_PROPOSED";
+    case 16:
+        return "JOURNAL_FULL";
+    case 17:
+        return "BAD_JOURNAL";
+    case 18:
+        return "NOT_A_FRAME";
+    case 19:
+        return "BAD_LINE";
+    case 20:
+        return "NO_RESULT";
+    case 21:
+        return "NOT_A_SUSPENSION";
+    case 22:
+        return "NO_JOURNAL";
+    case 23:
+        return "NO_ROW";
+    case 24:
+        return "NOT_FRAMES";
+    case 25:
+        return "BUSY";
+    case 26:
+        return "BAD_HANDLE";
+    case 27:
+        return "BAD_POINTER";
+    default:
+        return NULL;
+    }
+}
+
+const char *palqytun_status_text(uint32_t status)
+{
+    switch (status) {
+    case 0:
+        return "the call was made";
+    case 1:
+        return "no memory was found";
+    case 2:
+        return "the VM was closed";
+    case 3:
+        return "there is no VM";
+    case 4:
+        return "the buffer is too short";
+    case 5:
+        return "the VM refused the call";
+    case 6:
+        return "a text isn't UTF-8";
+    case 7:
+        return "the nodes aren't one tree";
+    case 8:
+        return "a number names no case of what it is to name";
+    case 9:
+        return "there is no such part";
+    case 10:
+        return "the output isn't whole frames";
+    case 11:
+        return "it isn't one whole frame of a notification";
+    case 12:
+        return "no stored command has the completion id";
+    case 13:
+        return "the completion id was completed before";
+    case 14:
+        return "the id of an invocation is completed by something else";
+    case 15:
+        return "the result of a run is proposed by the attempt that ran it";
+    case 16:
+        return "the journal is full";
+    case 17:
+        return "it isn't one whole frame of a command or a notification, or the first one isn't an Input";
+    case 18:
+        return "it isn't one whole frame";
+    case 19:
+        return "the line has no meaning";
+    case 20:
+        return "the frame has no result";
+    case 21:
+        return "the frame isn't one of a suspension";
+    case 22:
+        return "the journal was closed";
+    case 23:
+        return "the last store has no such row";
+    case 24:
+        return "the notifications aren't whole frames";
+    case 25:
+        return "a call of another thread has not ended; let a lock guard it";
+    case 26:
+        return "the handle is of something else";
+    case 27:
+        return "a pointer is NULL that may not be";
+    default:
+        return NULL;
+    }
+}
+
+const char *palqytun_code_name(uint32_t code)
+{
+    switch (code) {
+    case 400:
+        return "BAD_REQUEST";
+    case 415:
+        return "UNSUPPORTED_MEDIA_TYPE";
+    case 500:
+        return "INTERNAL";
+    case 570:
+        return "JOURNAL_MISMATCH";
+    case 571:
+        return "PROTOCOL_VIOLATION";
+    case 573:
+        return "UNSUPPORTED_FEATURE";
+    case 598:
+        return "CLOSED";
+    case 599:
+        return "SUSPENDED";
+    default:
+        return NULL;
+    }
+}
