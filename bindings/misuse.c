@@ -1,5 +1,6 @@
-/* A test: what a caller may not do is answered by a status, and nothing is corrupted. Then each two calls race, on two to eight threads.
-   usage: misuse ROUNDS [stack]: this many rounds of each race; and on a thread with as little stack as the header says.
+/* A test: what a caller may not do is answered by a status, and nothing is corrupted. Then each two calls race, on two to eight threads, and each call
+   races the close of its handle.
+   usage: misuse ROUNDS [few] [stack]: this many rounds of each race; of 16 calls alone; and on a thread with as little stack as the header says.
    It is run under valgrind and with sanitizers too, and these need more stack. */
 #define _POSIX_C_SOURCE 200809L
 #include "palqytun.h"
@@ -241,6 +242,24 @@ static void values(void)
     palqytun_journal_close(journal);
 }
 
+/* ---- what numbers say */
+
+static void names(void)
+{
+    int statuses = 0;
+    for (uint32_t i = 0; i < 64; i++) {
+        const char *name = palqytun_status_name(i), *text = palqytun_status_text(i);
+        gets("a name and a text, or neither", (name != NULL) + (text != NULL), name != NULL ? 2 : 0);
+        statuses += name != NULL;
+    }
+    gets("there are statuses that have names", statuses > PALQYTUN_BAD_POINTER, true);
+    gets("the name of a status", (uint32_t)strcmp(palqytun_status_name(PALQYTUN_NO_MEMORY), "NO_MEMORY"), 0);
+    gets("the text of a status", (uint32_t)strcmp(palqytun_status_text(PALQYTUN_NO_MEMORY), "no memory was found"), 0);
+    gets("the name of a code", (uint32_t)strcmp(palqytun_code_name(PALQYTUN_CODE_JOURNAL_MISMATCH), "JOURNAL_MISMATCH"), 0);
+    gets("no name of a code of the handler's own", palqytun_code_name(418) == NULL, true);
+    gets("no name of the largest number", palqytun_status_name(UINT32_MAX) == NULL && palqytun_code_name(UINT32_MAX) == NULL, true);
+}
+
 /* ---- output that is lent */
 
 static palqytun_vm *shared;
@@ -371,16 +390,100 @@ static uint32_t do_keep(void) { return palqytun_journal_keep(shared_journal); }
 static uint32_t do_undo(void) { return palqytun_journal_undo(shared_journal); }
 static uint32_t do_foreign(void) { return palqytun_journal_entries((palqytun_journal *)shared).status; }
 
-static uint32_t (*const calls[])(void) = {do_state, do_completed, do_line, do_answer, do_part, do_feed, do_take_output, do_lend_output, do_signal, do_clear,
-    do_await, do_take, do_entries, do_row, do_keep, do_undo, do_foreign};
-enum { CALLS = sizeof calls / sizeof *calls, MOST_THREADS = 8 };
+
+/* The other calls, each with its reply. */
+static const palqytun_node tree[] = {{PALQYTUN_SINGLE, 17}, {PALQYTUN_SINGLE, 18}, {PALQYTUN_ALL_COMPLETED, 2}};
+static const palqytun_error later = {.code = 503};
+static const palqytun_value success = {0};
+static const palqytun_target greeter = {.service = {(const uint8_t *)"S", 1}, .handler = {(const uint8_t *)"h", 1}};
+static const palqytun_invocation other = {.name = {(const uint8_t *)"inv_1", 5}};
+static const palqytun_bytes key = {(const uint8_t *)"k", 1};
+
+#define TYPED(name, ...) static uint32_t do_##name(void) { return palqytun_##name(shared, __VA_ARGS__).status; }
+#define PLAIN(name) static uint32_t do_##name(void) { return palqytun_##name(shared).status; }
+#define STORED(name, ...) static uint32_t do_##name(void) { return palqytun_##name(shared_journal, __VA_ARGS__).status; }
+
+PLAIN(is_ready) PLAIN(head) PLAIN(close_input) PLAIN(output) PLAIN(last_command_index) PLAIN(input) PLAIN(awakeable) PLAIN(end)
+TYPED(report_error, &later, NULL)
+TYPED(await_tree, tree, 3)
+TYPED(sleep, key, 1)
+TYPED(state_get, key, nothing)
+TYPED(state_get_keys, nothing)
+TYPED(state_set, key, key, nothing, false)
+TYPED(state_clear_all, nothing)
+TYPED(ephemeral_state_get, key)
+TYPED(take_ephemeral, 1)
+TYPED(call, &greeter, key, nothing, false)
+TYPED(call_with_deadline, &greeter, key, 1, nothing, false)
+TYPED(send, &greeter, key, 1, nothing, false)
+TYPED(cancel_invocation, key)
+TYPED(attach, &other)
+TYPED(get_output, &other)
+TYPED(complete_awakeable, key, &success, false)
+TYPED(complete_signal, key, key, &success)
+TYPED(get_promise, key)
+TYPED(peek_promise, key)
+TYPED(complete_promise, key, &success, false)
+TYPED(run, key)
+TYPED(propose, 17, &success, NULL)
+TYPED(propose_retryable, 17, 1, &later, NULL)
+TYPED(write_output, &success, false)
+STORED(journal_entry, input, sizeof input)
+STORED(journal_arrive, input, sizeof input)
+STORED(journal_store, 7, NULL, 0)
+STORED(journal_frame, 0, NULL, 0)
+STORED(journal_effect, 0)
+STORED(journal_effect_part, 0, 0, NULL, 0)
+STORED(journal_answer, NULL, 0)
+static uint32_t do_make(void)
+{
+    return palqytun_make(shared, (palqytun_optional){true, bytes("application/vnd.restate.invocation.v7")}, NULL).status;
+}
+static uint32_t do_close(void) { return palqytun_close(shared); }
+static uint32_t do_journal_close(void) { return palqytun_journal_close(shared_journal); }
+
+static uint32_t (*const calls[])(void) = {do_state, do_completed, do_line, do_answer, do_part, do_feed, do_take_output, do_signal, do_clear,
+    do_await, do_take, do_entries, do_row, do_keep, do_undo, do_foreign, do_make, do_is_ready, do_head, do_close_input, do_output,
+    do_last_command_index, do_report_error, do_input, do_await_tree, do_sleep, do_state_get, do_state_get_keys, do_state_set, do_state_clear_all,
+    do_ephemeral_state_get, do_take_ephemeral, do_call, do_call_with_deadline, do_send, do_cancel_invocation, do_attach, do_get_output, do_awakeable,
+    do_complete_awakeable, do_complete_signal, do_get_promise, do_peek_promise, do_complete_promise, do_run, do_propose, do_propose_retryable,
+    do_write_output, do_end, do_journal_entry, do_journal_arrive, do_journal_store, do_journal_frame, do_journal_effect, do_journal_effect_part,
+    do_journal_answer, do_lend_output};
+enum { FEW = 16, CALLS = sizeof calls / sizeof *calls, MOST_THREADS = 8 };
 
 typedef struct {
     uint32_t (*call)(void);
     long rounds;
+    /* The handles are closed meanwhile. */
+    bool closes;
     /* A status that may not be, or 0. */
     uint32_t strange;
 } racer;
+
+/* Whether a call may end so in a race. */
+static bool may_be(const racer *it, uint32_t status)
+{
+    switch (status) {
+    case PALQYTUN_DONE:
+    case PALQYTUN_REFUSED:
+    case PALQYTUN_BUSY:
+    case PALQYTUN_NO_ROOM:
+    case PALQYTUN_NO_PART:
+    case PALQYTUN_NO_ROW:
+        return true;
+    case PALQYTUN_NO_SESSION:
+    case PALQYTUN_NO_JOURNAL:
+        return it->closes;
+    case PALQYTUN_BAD_HANDLE:
+        return it->call == do_foreign;
+    case PALQYTUN_NOT_A_NOTIFICATION:
+        return it->call == do_journal_arrive;
+    case PALQYTUN_BAD_JOURNAL:
+        return it->call == do_journal_entry; /* a second input */
+    default:
+        return false;
+    }
+}
 
 static pthread_barrier_t all_ready;
 
@@ -390,21 +493,8 @@ static void *race(void *it)
     pthread_barrier_wait(&all_ready);
     for (long i = 0; i < mine->rounds; i++) {
         uint32_t status = mine->call();
-        switch (status) {
-        case PALQYTUN_DONE:
-        case PALQYTUN_REFUSED:
-        case PALQYTUN_BUSY:
-        case PALQYTUN_NO_ROOM:
-        case PALQYTUN_NO_PART:
-        case PALQYTUN_NO_ROW:
-            break;
-        case PALQYTUN_BAD_HANDLE:
-            if (mine->call == do_foreign)
-                break;
-            /* fall through */
-        default:
+        if (!may_be(mine, status))
             mine->strange = status;
-        }
     }
     return NULL;
 }
@@ -424,16 +514,17 @@ static void run(racer *racers, int count)
     pthread_barrier_destroy(&all_ready);
 }
 
-static void races(long rounds)
+/* Each two of the first calls, each with itself too. */
+static void races(long rounds, int count)
 {
     int pairs = 0, threads = 2;
-    for (int i = 0; i < CALLS; i++)
-        for (int j = i; j < CALLS; j++) {
+    for (int i = 0; i < count; i++)
+        for (int j = i; j < count; j++) {
             racer racers[MOST_THREADS] = {0};
             shared = opened();
             shared_journal = opened_journal();
             for (int n = 0; n < threads; n++)
-                racers[n] = (racer){calls[n % 2 ? j : i], rounds, 0};
+                racers[n] = (racer){calls[n % 2 ? j : i], rounds, false, 0};
             run(racers, threads);
             gets("after a race", palqytun_state(shared).status, PALQYTUN_DONE);
             gets("after a race", palqytun_close(shared), PALQYTUN_DONE);
@@ -443,6 +534,24 @@ static void races(long rounds)
             threads = threads == MOST_THREADS ? 2 : threads + 1;
         }
     printf("%d pairs of calls raced\n", pairs);
+}
+
+/* Each of the first calls, on two threads, and the close of its handle on another two. */
+static void closings(long rounds, int count)
+{
+    for (int i = 0; i < count; i++) {
+        shared = opened();
+        shared_journal = opened_journal();
+        racer racers[] = {
+            {calls[i], rounds, true, 0}, {do_close, 1 + rounds / 2, true, 0}, {calls[i], rounds, true, 0}, {do_journal_close, 1 + rounds / 2, true, 0}};
+        run(racers, 4);
+        /* A call that was there first may have kept them open to the end. */
+        palqytun_close(shared);
+        palqytun_journal_close(shared_journal);
+        gets("after a close", palqytun_state(shared).status, PALQYTUN_NO_SESSION);
+        gets("after a close", palqytun_journal_entries(shared_journal).status, PALQYTUN_NO_JOURNAL);
+    }
+    printf("%d calls raced a close\n", count);
 }
 
 /* ---- handles that are opened and closed by many threads */
@@ -519,11 +628,18 @@ int main(int count, char **words)
     if (count < 2)
         return 2;
     long rounds = strtol(words[1], NULL, 10);
+    int raced = CALLS;
     misuses(NULL);
     printf("%d misuses\n", uses);
-    if (count > 2)
-        on_little_stack();
-    races(rounds);
+    names();
+    for (int i = 2; i < count; i++) {
+        if (strcmp(words[i], "few") == 0)
+            raced = FEW;
+        else
+            on_little_stack();
+    }
+    races(rounds, raced);
+    closings(rounds, raced);
     churns(rounds);
     printf("%d wrong\n", wrong);
     return wrong != 0;

@@ -142,7 +142,7 @@ def hostile(it: Options) -> Job:
 
 
 def sanitizers(it: Options) -> Job:
-    return script("sanitizers", "tools/bindings", "--library", it.library, "sanitizers", "valgrind", "valgrind-python")
+    return script("sanitizers", "tools/bindings", "--library", it.library, "sanitizers", "valgrind", "valgrind-python", "races")
 
 
 def limit_of(it: Options) -> str:
@@ -198,7 +198,7 @@ PARTS = [
         lambda said: "; ".join(said.strip().splitlines()[-2:]),
     ),
     Part("hostile", "time and memory on input that is deep, long or many", hostile, lambda it: it.kind, line_before_counts),
-    Part("sanitizers", "the examples in C and Python with sanitizers and under valgrind", sanitizers, lambda it: it.kind, last_line),
+    Part("sanitizers", "the examples in C and Python with sanitizers and under valgrind, and long races of all calls", sanitizers, lambda it: it.kind, last_line),
 ]
 
 
