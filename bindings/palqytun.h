@@ -399,7 +399,7 @@ enum {
     PALQYTUN_KEYS = 19,
     /* Part 0: the invocation's id. */
     PALQYTUN_INVOCATION_ID = 20,
-    /* number: the code; first: 1 if it relates to a command; second: its index; third: the type of its message (docs/WIRE.md).
+    /* number: the code; first: 1 if it relates to a command; second: its index; third: the type of its message, a PALQYTUN_MESSAGE_.
        Parts: 0 the text, 1 the stack trace, 2 the command's name. */
     PALQYTUN_ERROR = 21,
     /* Errors by which no VM has failed, with the numbers and parts of an error. So no error that a handler reports is of these kinds. Of a
@@ -559,7 +559,7 @@ enum {
     PALQYTUN_NO_ROW = 23
 };
 
-/* An entry: the type of its message (docs/WIRE.md), the completion id that it completes, if it is a completion, and its length in bytes.
+/* An entry: the type of its message, a PALQYTUN_MESSAGE_, the completion id that it completes, if it is a completion, and its length in bytes.
    All but the status is 0 if it isn't PALQYTUN_DONE. */
 typedef struct {
     uint32_t status;
@@ -762,12 +762,12 @@ enum {
     PALQYTUN_RESULT_INVOCATION_ID = 5
 };
 
-/* What a frame says: the type of its message (docs/WIRE.md), and its numbers. All but the status is 0 if it isn't PALQYTUN_DONE.
+/* What a frame says: the type of its message, a PALQYTUN_MESSAGE_, and its numbers. All but the status is 0 if it isn't PALQYTUN_DONE.
 
    kind     of a notification and a signal that is sent: a PALQYTUN_COMPLETION, PALQYTUN_SIGNAL or PALQYTUN_NAMED_SIGNAL; of
-            AttachInvocation and GetInvocationOutput, what names the invocation: 0 its id, 1 a workflow, 2 an idempotency key; of an error
-            what comes of it: 0 retried, 1 paused, 2 failed
-   result   what its result is
+            AttachInvocation and GetInvocationOutput, what names the invocation: a PALQYTUN_TARGET_; of an error what comes of it: a
+            PALQYTUN_BEHAVIOR_
+   result   what its result is: a PALQYTUN_RESULT_, or PALQYTUN_NO_RESULT_THERE
    id       the completion id of a command, a proposal or a notification, the number of a signal, or the code of an error
    second   the completion id of a call's invocation id; the code of a failure; 1 if an error has a delay
    number   when a sleep ends, when a call begins, or an error's delay, in milliseconds

@@ -56,7 +56,7 @@ from palqytun._hastened import hastened
 from palqytun._lines import handed_in, word_of
 from palqytun._replies import Parts, awaited_of, input_of, related_of, result_of
 from palqytun._words import HANDLE, integer, octets, truth, utf8
-from palqytun.errors import BadLine, Cancelled, Closed, Code, Fault, JournalFault, JournalMismatch, Related, Suspended, VMError, error_of
+from palqytun.errors import BadFrame, BadLine, Cancelled, Closed, Code, Fault, JournalFault, JournalMismatch, Related, Suspended, VMError, error_of
 from palqytun.futures import (
     AnyOf,
     Future,
@@ -98,6 +98,7 @@ __all__ = [
     "VOID",
     "AnyOf",
     "Awakeable",
+    "BadFrame",
     "BadLine",
     "Behaviour",
     "Cancelled",
