@@ -1,6 +1,6 @@
 -- What is left as a leaf alone, by the label of its first node.
 use Rattle.std.proofs.Common.{◌≡◌, ℕ, Option, Some, None, sym, ap}
-use Rattle.journal_protocol.specs.FutureKind.{FutureKind}
+use Rattle.journal_attempt.specs.declared.future.FutureKind.{FutureKind}
 use Rattle.await_trees.specs.declared.nodes.Label.TheVariants.{Leaf, Inner}
 use Rattle.await_tries.specs.Left.{Left, IsTreeLeft, lone_handle, tree_left}
 use Rattle.await_tries.specs.Spells.{node_at}
