@@ -95,8 +95,14 @@ static void free_slot(slot *it, uint32_t number, uint64_t uses)
     } while (!atomic_compare_exchange_weak_explicit(&free_slots, &top, more, memory_order_acq_rel, memory_order_relaxed));
 }
 
-/* Makes a handle. It is 0 if no memory was found. */
-static uint64_t handle_open(uint32_t *status, unsigned kind, uint32_t (*make)(palqytun_held *))
+/* Makes what a handle is of. The layer is a session's. */
+static uint32_t make(palqytun_held *held, unsigned kind, uint32_t layer)
+{
+    return kind == A_VM ? proved_new(held, layer) : proved_journal_new(held);
+}
+
+/* Makes a handle. It is 0 if it has nothing that it would be of. */
+static uint64_t handle_open(uint32_t *status, unsigned kind, uint32_t layer)
 {
     uint32_t number = next_slot();
     if (number == 0) {
@@ -106,7 +112,7 @@ static uint64_t handle_open(uint32_t *status, unsigned kind, uint32_t (*make)(pa
     slot *it = slot_at(number - 1);
     uint64_t uses = atomic_load_explicit(&it->word, memory_order_acquire) >> 32;
     it->held.at = NULL;
-    *status = make(&it->held);
+    *status = make(&it->held, kind, layer);
     if (*status != PALQYTUN_DONE) {
         free_slot(it, number, uses);
         return 0;
@@ -171,9 +177,14 @@ static uint32_t handle_close(const void *handle, unsigned kind, void (*end)(palq
 
 uint32_t palqytun_open(palqytun_vm **vm)
 {
+    return palqytun_open_over(vm, PALQYTUN_LAYER_OWN);
+}
+
+uint32_t palqytun_open_over(palqytun_vm **vm, uint32_t layer)
+{
     uint32_t status = PALQYTUN_BAD_POINTER;
     if (vm != NULL)
-        *vm = (palqytun_vm *)(uintptr_t)handle_open(&status, A_VM, proved_new);
+        *vm = (palqytun_vm *)(uintptr_t)handle_open(&status, A_VM, layer);
     return status;
 }
 
@@ -186,7 +197,7 @@ uint32_t palqytun_journal_open(palqytun_journal **journal)
 {
     uint32_t status = PALQYTUN_BAD_POINTER;
     if (journal != NULL)
-        *journal = (palqytun_journal *)(uintptr_t)handle_open(&status, A_JOURNAL, proved_journal_new);
+        *journal = (palqytun_journal *)(uintptr_t)handle_open(&status, A_JOURNAL, PALQYTUN_LAYER_OWN);
     return status;
 }
 

@@ -61,6 +61,10 @@ const char *palqytun_status_name(uint32_t status)
         return "BAD_HANDLE";
     case 27:
         return "BAD_POINTER";
+    case 28:
+        return "NO_FRAME";
+    case 29:
+        return "LAYERED";
     default:
         return NULL;
     }
@@ -125,6 +129,10 @@ const char *palqytun_status_text(uint32_t status)
         return "the handle is of something else";
     case 27:
         return "a pointer is NULL that may not be";
+    case 28:
+        return "the next message has no frame in the layer of the peer";
+    case 29:
+        return "the peer speaks another layer, and the call is in the own bytes of the VM";
     default:
         return NULL;
     }

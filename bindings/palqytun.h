@@ -68,7 +68,11 @@ enum {
     /* The handle is of another kind than the call's: a journal's for a session, or the other way round, or no handle at all. Nothing was done. */
     PALQYTUN_BAD_HANDLE = 26,
     /* A pointer is NULL that may not be, or a length is longer than anything in memory. Nothing was done. */
-    PALQYTUN_BAD_POINTER = 27
+    PALQYTUN_BAD_POINTER = 27,
+    /* The next message of the output has no frame in the layer that the session's peer speaks. Nothing was done. */
+    PALQYTUN_NO_FRAME = 28,
+    /* The session's peer speaks another layer, and the call is in the VM's own bytes. Nothing was done. */
+    PALQYTUN_LAYERED = 29
 };
 
 /* How a call ended, and a length in bytes. */
@@ -81,9 +85,26 @@ typedef struct {
    PALQYTUN_NO_MEMORY: there is none, and the handle is NULL. */
 uint32_t palqytun_open(palqytun_vm **vm);
 
+/* The layers that a session's peer may speak: the bytes of each message. */
+enum {
+    /* The VM's own (docs/WIRE.md). */
+    PALQYTUN_LAYER_OWN = 0,
+    /* A second layer, in the version of the VM. Nobody but this repository's tests speaks it. A frame is a length in four bytes, as many
+       bytes, and the type in two. The first of those bytes is 0 or 1, and the body follows. Below version 7 a suspension has no tree. */
+    PALQYTUN_LAYER_SHORT = 1,
+    /* The same in version 6, also for a VM of a later one: it has no AwaitingOn. */
+    PALQYTUN_LAYER_SHORT_V6 = 2
+};
+
+/* The same as palqytun_open, for a peer that speaks this layer, a PALQYTUN_LAYER_, in palqytun_feed and palqytun_take_output. A session keeps its
+   layer, and a VM that is made in it begins with nothing of the last one's bytes. Unless the layer is the VM's own, palqytun_line and
+   palqytun_lend_output are PALQYTUN_LAYERED, and palqytun_output is in the VM's own bytes still. PALQYTUN_BAD_NUMBER: the number names no
+   layer. There is no session then, and the handle is NULL. */
+uint32_t palqytun_open_over(palqytun_vm **vm, uint32_t layer);
+
 /* Performs one line, without its end, and returns how long its reply is. A line that isn't understood has a reply too,
    `bad`. PALQYTUN_NO_MEMORY: the last reply stays, and the line may have been performed: close the session. (If the VM
-   itself finds no memory it has failed, and the reply is `err 500 ""`.) */
+   itself finds no memory it has failed, and the reply is `err 500 ""`.) PALQYTUN_LAYERED: nothing was done. */
 palqytun_told palqytun_line(palqytun_vm *vm, const uint8_t *line, size_t line_len);
 
 /* Writes the last reply to the front of out, and returns how long it is. It has no line end, and no 0 after it. It stays, and can
@@ -91,14 +112,15 @@ palqytun_told palqytun_line(palqytun_vm *vm, const uint8_t *line, size_t line_le
 palqytun_told palqytun_answer(palqytun_vm *vm, uint8_t *out, size_t out_len);
 
 /* Feeds the VM the next bytes of its input, cut anywhere: the line `input` without hex digits. If what they say fails the VM,
-   its next call returns the error. PALQYTUN_NO_MEMORY: the same bytes may be fed again: a VM that took none of them takes them
-   then, and one that failed drops them. */
+   its next call returns the error. In another layer, bytes that are no frame fail it as bytes of its own that are none. PALQYTUN_NO_MEMORY:
+   the same bytes may be fed again: a VM that took none of them takes them then, and one that failed drops them. */
 uint32_t palqytun_feed(palqytun_vm *vm, const uint8_t *bytes, size_t bytes_len);
 
 /* Moves all bytes that wait to be sent to the front of out, and returns how many there are: the line `output` without hex digits.
    They are whole frames. PALQYTUN_NO_ROOM: len is the room that they need; so a call with out_len 0 asks for it. The memory of more than
-   64 KiB is given back; else it stays for the next ones. palqytun_lend_output, below, gives the same bytes without a copy.
-   PALQYTUN_NO_MEMORY: they still wait. */
+   64 KiB is given back; else it stays for the next ones. palqytun_lend_output, below, gives the VM's own bytes without a copy.
+   PALQYTUN_NO_MEMORY: they still wait. PALQYTUN_NO_FRAME, in another layer: all that stood before a message was taken, and the layer lacks the
+   message, or it is too long for a frame there. It waits, and each further call says so. */
 palqytun_told palqytun_take_output(palqytun_vm *vm, uint8_t *out, size_t out_len);
 
 /* Frees the session, with all its memory, and ends its handle. PALQYTUN_NO_SESSION: it was closed before, or the handle is NULL.
@@ -437,7 +459,8 @@ typedef struct {
 palqytun_told palqytun_part(palqytun_vm *vm, size_t at, uint8_t *out, size_t out_len);
 
 /* Lends all bytes that wait to be sent, where palqytun_take_output copies them: they move out of the VM to a buffer of the session, and
-   *output says where they lie and how many they are. They are whole frames.
+   *output says where they lie and how many they are. They are whole frames in the VM's own layer. PALQYTUN_LAYERED: the session's peer speaks
+   another one. They wait still, and palqytun_take_output gives them in that layer.
 
    Read them before the session's next palqytun_lend_output or its palqytun_close: each of the two ends the loan, and then there may be other
    bytes at that place, or no memory. The other calls leave the bytes as they are and where they are. A call returns at once, also while another

@@ -25,7 +25,7 @@ palqytun_told proved_journal_frame(palqytun_held *journal, size_t at, uint8_t *o
 palqytun_told proved_journal_answer(palqytun_held *journal, uint8_t *out, size_t out_len);
 uint32_t proved_journal_keep(palqytun_held *journal);
 uint32_t proved_journal_undo(palqytun_held *journal);
-uint32_t proved_new(palqytun_held *vm);
+uint32_t proved_new(palqytun_held *vm, uint32_t layer);
 palqytun_told proved_answer(palqytun_held *vm, uint8_t *out, size_t out_len);
 uint32_t proved_feed(palqytun_held *vm, const uint8_t *bytes, size_t bytes_len);
 palqytun_told proved_take_output(palqytun_held *vm, uint8_t *out, size_t out_len);

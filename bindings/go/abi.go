@@ -64,6 +64,8 @@ const (
 	StatusBusy             Status = 25
 	StatusBadHandle        Status = 26
 	StatusBadPointer       Status = 27
+	StatusNoFrame          Status = 28
+	StatusLayered          Status = 29
 )
 
 var namesStatus = map[Status]string{
@@ -95,6 +97,8 @@ var namesStatus = map[Status]string{
 	25: "Busy",
 	26: "BadHandle",
 	27: "BadPointer",
+	28: "NoFrame",
+	29: "Layered",
 }
 
 // String is the case's name.
@@ -129,6 +133,8 @@ var textsOfStatus = map[Status]string{
 	25: "a call of another thread has not ended; let a lock guard it",
 	26: "the handle is of something else",
 	27: "a pointer is NULL that may not be",
+	28: "the next message has no frame in the layer of the peer",
+	29: "the peer speaks another layer, and the call is in the own bytes of the VM",
 }
 
 // ImplicitCancellation: what a cancelled await cancels; or the cancel signal ends no await.

@@ -12,6 +12,7 @@
 
 static struct {
     uint32_t (*open)(void **);
+    uint32_t (*open_over)(void **, uint32_t);
     uint32_t (*line)(void *, const uint8_t *, size_t, palqytun_told *);
     uint32_t (*answer)(void *, uint8_t *, size_t, palqytun_told *);
     uint32_t (*feed)(void *, const uint8_t *, size_t);
@@ -94,6 +95,8 @@ static bool loads(void *object, const char **lacks)
     bool is_whole = true;
     if ((*(void **)&it.open = dlsym(object, "palqytun_open")) == NULL)
         is_whole = false, *lacks = "palqytun_open";
+    if ((*(void **)&it.open_over = dlsym(object, "palqytun_open_over")) == NULL)
+        is_whole = false, *lacks = "palqytun_open_over";
     if ((*(void **)&it.line = dlsym(object, "palqytun_flat_line")) == NULL)
         is_whole = false, *lacks = "palqytun_flat_line";
     if ((*(void **)&it.answer = dlsym(object, "palqytun_flat_answer")) == NULL)
@@ -297,6 +300,11 @@ bool pq_load(const char *path, char *said, size_t said_len)
 uint32_t pq_open(uintptr_t *vm)
 {
     return it.open((void **)vm);
+}
+
+uint32_t pq_open_over(uintptr_t *vm, uint32_t layer)
+{
+    return it.open_over((void **)vm, layer);
 }
 
 uint32_t pq_line(uintptr_t vm, const uint8_t *line, size_t line_len, palqytun_told *returned)

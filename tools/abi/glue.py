@@ -17,7 +17,7 @@ from .header import Header
 
 PREFIX = "palqytun_"
 NUMBERS = {"bool": "bool", "uint16_t": "u16", "uint32_t": "u32", "uint64_t": "u64", "size_t": "size"}
-OWN = frozenset({"open", "journal_open", "close", "journal_close", "abi", "version", "build", "is_proved", "status_name", "status_text", "code_name"})
+OWN = frozenset({"open", "open_over", "journal_open", "close", "journal_close", "abi", "version", "build", "is_proved", "status_name", "status_text", "code_name"})
 """What a binding has in its own way."""
 LENDS = frozenset({"lend_output"})
 """What lends the caller memory, of which a value of the language would be a copy."""

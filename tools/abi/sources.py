@@ -106,6 +106,7 @@ TABLES = (
     Table("c_values/src/status.rt", _of_code("Status")),
     Table("c_sessions/src/kind.rt", _of_code("Kind")),
     Table("c_sessions/src/replied.rt", _of_code("State"), "STATE_"),
+    Table("c_sessions/src/peer.rt", _of_match("Spoken"), "LAYER_"),
     Table("c_calls/src/nodes.rt", _of_match("FutureKind")),
     Table("c_calls/src/reports.rt", _of_match("CommandType"), "COMMAND_"),
     Table("c_calls/src/reports.rt", _of_match("ErrorBehavior"), "BEHAVIOR_"),

@@ -29,6 +29,8 @@ TEXTS = {
     "BUSY": "a call of another thread has not ended; let a lock guard it",
     "BAD_HANDLE": "the handle is of something else",
     "BAD_POINTER": "a pointer is NULL that may not be",
+    "NO_FRAME": "the next message has no frame in the layer of the peer",
+    "LAYERED": "the peer speaks another layer, and the call is in the own bytes of the VM",
     "BAD_OUTPUT": "the output isn't whole frames",
     "NOT_A_NOTIFICATION": "it isn't one whole frame of a notification",
     "NO_SUCH_ID": "no stored command has the completion id",

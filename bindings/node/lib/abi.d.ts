@@ -1,7 +1,7 @@
 // tools/header --write writes this file, from palqytun.h.
 
 /** How a call ended. */
-export type Status = 'DONE' | 'NO_MEMORY' | 'NO_SESSION' | 'NO_VM' | 'NO_ROOM' | 'REFUSED' | 'BAD_TEXT' | 'BAD_TREE' | 'BAD_NUMBER' | 'NO_PART' | 'BAD_OUTPUT' | 'NOT_A_NOTIFICATION' | 'NO_SUCH_ID' | 'SECOND_COMPLETION' | 'WRONG_KIND' | 'RUN_IS_PROPOSED' | 'JOURNAL_FULL' | 'BAD_JOURNAL' | 'NOT_A_FRAME' | 'BAD_LINE' | 'NO_RESULT' | 'NOT_A_SUSPENSION' | 'NO_JOURNAL' | 'NO_ROW' | 'NOT_FRAMES' | 'BUSY' | 'BAD_HANDLE' | 'BAD_POINTER';
+export type Status = 'DONE' | 'NO_MEMORY' | 'NO_SESSION' | 'NO_VM' | 'NO_ROOM' | 'REFUSED' | 'BAD_TEXT' | 'BAD_TREE' | 'BAD_NUMBER' | 'NO_PART' | 'BAD_OUTPUT' | 'NOT_A_NOTIFICATION' | 'NO_SUCH_ID' | 'SECOND_COMPLETION' | 'WRONG_KIND' | 'RUN_IS_PROPOSED' | 'JOURNAL_FULL' | 'BAD_JOURNAL' | 'NOT_A_FRAME' | 'BAD_LINE' | 'NO_RESULT' | 'NOT_A_SUSPENSION' | 'NO_JOURNAL' | 'NO_ROW' | 'NOT_FRAMES' | 'BUSY' | 'BAD_HANDLE' | 'BAD_POINTER' | 'NO_FRAME' | 'LAYERED';
 
 /** What a cancelled await cancels; or the cancel signal ends no await. */
 export type ImplicitCancellation = 'calls' | 'nothing' | 'sends' | 'callsAndSends' | 'disabled';

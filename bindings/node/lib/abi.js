@@ -19,6 +19,11 @@ exports.NUMBERS = Object.freeze({
   BUSY: 25,
   BAD_HANDLE: 26,
   BAD_POINTER: 27,
+  NO_FRAME: 28,
+  LAYERED: 29,
+  LAYER_OWN: 0,
+  LAYER_SHORT: 1,
+  LAYER_SHORT_V6: 2,
   SINGLE: 0,
   FIRST_COMPLETED: 1,
   ALL_COMPLETED: 2,
@@ -208,6 +213,8 @@ exports.STATUSES = Object.freeze({
   25: ["BUSY", "a call of another thread has not ended; let a lock guard it"],
   26: ["BAD_HANDLE", "the handle is of something else"],
   27: ["BAD_POINTER", "a pointer is NULL that may not be"],
+  28: ["NO_FRAME", "the next message has no frame in the layer of the peer"],
+  29: ["LAYERED", "the peer speaks another layer, and the call is in the own bytes of the VM"],
 });
 
 /** What a cancelled await cancels; or the cancel signal ends no await. */

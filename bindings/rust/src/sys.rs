@@ -25,6 +25,11 @@ pub const NO_PART: u32 = 9;
 pub const BUSY: u32 = 25;
 pub const BAD_HANDLE: u32 = 26;
 pub const BAD_POINTER: u32 = 27;
+pub const NO_FRAME: u32 = 28;
+pub const LAYERED: u32 = 29;
+pub const LAYER_OWN: u32 = 0;
+pub const LAYER_SHORT: u32 = 1;
+pub const LAYER_SHORT_V6: u32 = 2;
 pub const SINGLE: u32 = 0;
 pub const FIRST_COMPLETED: u32 = 1;
 pub const ALL_COMPLETED: u32 = 2;
@@ -243,6 +248,10 @@ pub enum Status {
     BadHandle = 26,
     /// a pointer is NULL that may not be
     BadPointer = 27,
+    /// the next message has no frame in the layer of the peer
+    NoFrame = 28,
+    /// the peer speaks another layer, and the call is in the own bytes of the VM
+    Layered = 29,
 }
 
 impl Status {
@@ -277,6 +286,8 @@ impl Status {
             25 => Some(Self::Busy),
             26 => Some(Self::BadHandle),
             27 => Some(Self::BadPointer),
+            28 => Some(Self::NoFrame),
+            29 => Some(Self::Layered),
             _ => None,
         }
     }
@@ -312,6 +323,8 @@ impl Status {
             Self::Busy => "a call of another thread has not ended; let a lock guard it",
             Self::BadHandle => "the handle is of something else",
             Self::BadPointer => "a pointer is NULL that may not be",
+            Self::NoFrame => "the next message has no frame in the layer of the peer",
+            Self::Layered => "the peer speaks another layer, and the call is in the own bytes of the VM",
         }
     }
 }
@@ -824,6 +837,7 @@ macro_rules! functions {
 
 functions! {
     open = "palqytun_open\0": (*mut Handle) -> u32;
+    open_over = "palqytun_open_over\0": (*mut Handle, u32) -> u32;
     line = "palqytun_line\0": (Handle, *const u8, usize) -> Told;
     answer = "palqytun_answer\0": (Handle, *mut u8, usize) -> Told;
     feed = "palqytun_feed\0": (Handle, *const u8, usize) -> u32;

@@ -42,6 +42,8 @@ misfit texts NamesNone status.NotASuspension refuses = absurd refuses.why
 misfit texts NamesNone status.NoJournal refuses = absurd refuses.why
 misfit texts NamesNone status.NoRow refuses = absurd refuses.why
 misfit texts NamesNone status.NotFrames refuses = absurd refuses.why
+misfit texts NamesNone status.NoFrame refuses = absurd refuses.why
+misfit texts NamesNone status.Layered refuses = absurd refuses.why
 
 some_first : (xs ys : List (List ℕ)) → SomeIsNoText xs → SomeIsNoText (xs ++ ys)
 some_first [] ys none = absurd none
@@ -77,6 +79,8 @@ why_of xs ys more status.NotASuspension why = why
 why_of xs ys more status.NoJournal why = why
 why_of xs ys more status.NoRow why = why
 why_of xs ys more status.NotFrames why = why
+why_of xs ys more status.NoFrame why = why
+why_of xs ys more status.Layered why = why
 
 -- the first texts can't be copied
 pub first_refused : (xs ys : List (List ℕ)) (s : Status) → CannotCopy xs s → CannotCopy (xs ++ ys) s
@@ -128,6 +132,8 @@ misfit_of xs ys A B more names status.NotASuspension why = absurd why
 misfit_of xs ys A B more names status.NoJournal why = absurd why
 misfit_of xs ys A B more names status.NoRow why = absurd why
 misfit_of xs ys A B more names status.NotFrames why = absurd why
+misfit_of xs ys A B more names status.NoFrame why = absurd why
+misfit_of xs ys A B more names status.Layered why = absurd why
 
 pub misfit_first : (xs ys : List (List ℕ)) (A B : Type 0) (s : Status) → Misfits xs A s → Misfits (xs ++ ys) (A ⊎ B) s
 misfit_first xs ys A B s why = misfit_of xs (xs ++ ys) A (A ⊎ B) (some_first xs ys) (λ a. inl a) s why

@@ -108,3 +108,5 @@ stops nodes us k d status.NotASuspension below same cant = absurd cant
 stops nodes us k d status.NoJournal below same cant = absurd cant
 stops nodes us k d status.NoRow below same cant = absurd cant
 stops nodes us k d status.NotFrames below same cant = absurd cant
+stops nodes us k d status.NoFrame below same cant = absurd cant
+stops nodes us k d status.Layered below same cant = absurd cant

@@ -1,7 +1,7 @@
 //! What C gets.
-ghost use Rattle.std.specs.Prelude.{◌≡◌, ◌≤◌, false};
+ghost use Rattle.std.specs.Prelude.{◌≡◌, false};
 ghost use Rattle.c_frames.specs.Answers.{IsJudged};
-ghost use Rattle.c_values.specs.Statuses.{status_by};
+ghost use Rattle.c_values.specs.Statuses.{IsStatus, status_by};
 ghost use Rattle.c_values.specs.declared.status.Status.TheVariants.{Done};
 
 use c_values::Status;
@@ -17,7 +17,7 @@ pub struct Judged {
 /// Why a call that judges has no answer.
 pub fn unjudged(status: Status) -> Judged
     ensures status { status_by result.status ≡ status }
-    ensures known { result.status ≤ 24 }
+    ensures known { IsStatus result.status }
     ensures flag { result.is_awake ≡ false }
 {
     Judged {
@@ -29,7 +29,7 @@ pub fn unjudged(status: Status) -> Judged
 /// What C gets of a call that has judged.
 fn tell_awake(is_awake: bool) -> Judged
     ensures status { status_by result.status ≡ Done }
-    ensures known { result.status ≤ 24 }
+    ensures known { IsStatus result.status }
     ensures flag { result.is_awake ≡ is_awake }
 {
     Judged {
@@ -41,7 +41,7 @@ fn tell_awake(is_awake: bool) -> Judged
 /// Says whether a future is awake, or why that can't be said.
 pub fn judge(found: Result<bool, Status>) -> Judged
     ensures answered { IsJudged (status_by result.status) found result.is_awake }
-    ensures known { result.status ≤ 24 }
+    ensures known { IsStatus result.status }
 {
     match found {
         Ok(is_awake) => tell_awake(is_awake),

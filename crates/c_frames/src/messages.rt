@@ -1,6 +1,6 @@
 //! The message that bytes are.
-ghost use Rattle.std.specs.Prelude.{◌≡◌, ◌≤◌, IfOk};
-ghost use Rattle.c_values.specs.Statuses.{status_by};
+ghost use Rattle.std.specs.Prelude.{◌≡◌, IfOk};
+ghost use Rattle.c_values.specs.Statuses.{IsStatus, status_by};
 ghost use Rattle.c_values.specs.Written.{WrittenOrWhy};
 ghost use Rattle.c_frames.specs.Messages.{message_at, message_row, named_difference, part_behind};
 
@@ -44,7 +44,7 @@ pub fn message_row(message: &Option<Message>) -> FrameRow
 pub fn write_part(message: &Option<Message>, at: usize, out: &mut [u8]) -> Told
     ensures written { WrittenOrWhy (status_by result.status) (part_behind message.now at) result.len
         out.old out.new }
-    ensures known { result.status ≤ 24 }
+    ensures known { IsStatus result.status }
 {
     match message {
         None => tell(Status::NotAFrame, 0),
@@ -64,7 +64,7 @@ fn write_field(
 ) -> Told
     ensures written { WrittenOrWhy (status_by result.status)
         (named_difference ignore_payloads recorded.now asked.now) result.len out.old out.new }
-    ensures known { result.status ≤ 24 }
+    ensures known { IsStatus result.status }
 {
     match (recorded, asked) {
         (Some(recorded), Some(asked)) => match difference(recorded, asked, ignore_payloads) {
@@ -86,7 +86,7 @@ pub fn write_difference(
     ensures written { WrittenOrWhy (status_by result.status)
         (named_difference ignore_payloads recorded.now (message_at asked.now)) result.len out.old
         out.new }
-    ensures known { result.status ≤ 24 }
+    ensures known { IsStatus result.status }
 {
     match message_at(alloc, asked) {
         Ok(asked) => write_field(recorded, &asked, ignore_payloads, out),

@@ -1,10 +1,10 @@
 //! What each call from C does with the journal that C holds, if there is one.
-ghost use Rattle.std.specs.Prelude.{◌≡◌, ◌≤◌, None};
+ghost use Rattle.std.specs.Prelude.{◌≡◌, None};
 ghost use Rattle.journal_entries.specs.Arrivals.{arrival_fault};
 ghost use Rattle.journal_entries.specs.Given.{given_fault};
 ghost use Rattle.c_journals.specs.Journals.{CommitAnswered, EffectAnswered, EntryAnswered, FeedAnswered, FrameAnswered, HasEntries, IsNewJournal, OutputAnswered, OutputStored, PartAnswered, RowAnswered, UndoAnswered};
 ghost use Rattle.c_journals.specs.Statuses.{version_named};
-ghost use Rattle.c_values.specs.Statuses.{status_by};
+ghost use Rattle.c_values.specs.Statuses.{IsStatus, status_by};
 
 use crate::effect::{EffectRow, no_effect};
 use crate::held::{Journal, give, take};
@@ -30,7 +30,7 @@ fn version_named(number: u32) -> Option<Version>
 /// Makes a journal without entries, if memory is found. One that was there is dropped.
 pub fn open(alloc: Global, held: &mut Journal) -> u32
     ensures made { IsNewJournal (status_by result) held.new.value }
-    ensures known { result ≤ 24 }
+    ensures known { IsStatus result }
 {
     close(alloc, held);
     match Box::new(alloc, HeldJournal::new(alloc)) {
@@ -53,7 +53,7 @@ pub fn close(alloc: Global, held: &mut Journal)
 /// How many entries the journal has.
 pub fn entries(alloc: Global, held: &mut Journal) -> Told
     ensures kept { held.new.value ≡ held.old.value }
-    ensures known { result.status ≤ 24 }
+    ensures known { IsStatus result.status }
     ensures counted { HasEntries (status_by result.status) result.len held.old.value }
 {
     match take(alloc, held) {
@@ -100,7 +100,7 @@ pub fn arrive(alloc: Global, held: &mut Journal, entry: &[u8]) -> Row
 fn store_as(alloc: Global, held: &mut Journal, version: Version, output: &[u8]) -> Stored
     ensures stored { OutputStored version output.now (status_by result.status) result
         held.old.value held.new.value }
-    ensures known { result.status ≤ 24 }
+    ensures known { IsStatus result.status }
 {
     match take(alloc, held) {
         Some(mut journal) => {
@@ -116,7 +116,7 @@ fn store_as(alloc: Global, held: &mut Journal, version: Version, output: &[u8]) 
 pub fn store(alloc: Global, held: &mut Journal, version: u32, output: &[u8]) -> Stored
     ensures stored { OutputAnswered (version_named version) output.now (status_by result.status)
         result held.old.value held.new.value }
-    ensures known { result.status ≤ 24 }
+    ensures known { IsStatus result.status }
 {
     match version_named(version) {
         Some(version) => store_as(alloc, held, version, output),
@@ -127,7 +127,7 @@ pub fn store(alloc: Global, held: &mut Journal, version: u32, output: &[u8]) -> 
 /// What came since the last commit is committed. Without memory the journal is dropped.
 pub fn keep(alloc: Global, held: &mut Journal) -> u32
     ensures committed { CommitAnswered (status_by result) held.old.value held.new.value }
-    ensures known { result ≤ 24 }
+    ensures known { IsStatus result }
 {
     match take(alloc, held) {
         Some(mut journal) => match journal.keep() {
@@ -144,7 +144,7 @@ pub fn keep(alloc: Global, held: &mut Journal) -> u32
 /// What came since the last commit is taken back.
 pub fn undo(alloc: Global, held: &mut Journal) -> u32
     ensures undone { UndoAnswered (status_by result) held.old.value held.new.value }
-    ensures known { result ≤ 24 }
+    ensures known { IsStatus result }
 {
     match take(alloc, held) {
         Some(mut journal) => {
@@ -195,7 +195,7 @@ pub fn read_effect(
     out: &mut [u8],
 ) -> Told
     ensures kept { held.new.value ≡ held.old.value }
-    ensures known { result.status ≤ 24 }
+    ensures known { IsStatus result.status }
     ensures read { PartAnswered at place (status_by result.status) result.len out.old out.new
         held.old.value }
 {
@@ -212,7 +212,7 @@ pub fn read_effect(
 /// Writes a row of the last store to the front of `out`, if there is room for it, and says how long it is.
 pub fn read_row(alloc: Global, held: &mut Journal, at: usize, out: &mut [u8]) -> Told
     ensures kept { held.new.value ≡ held.old.value }
-    ensures known { result.status ≤ 24 }
+    ensures known { IsStatus result.status }
     ensures read { FrameAnswered at (status_by result.status) result.len out.old out.new
         held.old.value }
 {
@@ -229,7 +229,7 @@ pub fn read_row(alloc: Global, held: &mut Journal, at: usize, out: &mut [u8]) ->
 /// Writes what answers the last store to the front of `out`, if there is room for it, and says how long it is.
 pub fn read_feed(alloc: Global, held: &mut Journal, out: &mut [u8]) -> Told
     ensures kept { held.new.value ≡ held.old.value }
-    ensures known { result.status ≤ 24 }
+    ensures known { IsStatus result.status }
     ensures read { FeedAnswered (status_by result.status) result.len out.old out.new
         held.old.value }
 {

@@ -1,8 +1,8 @@
 //! The parts of what a stored row asks for: texts and bytes, by their places. The first eight places are for what is asked for; from the
 //! eighth on stand the headers of a call.
-ghost use Rattle.std.specs.Prelude.{◌≡◌, ◌≤◌, IfOk};
+ghost use Rattle.std.specs.Prelude.{◌≡◌, IfOk};
 ghost use Rattle.std.specs.Option.{option_copied};
-ghost use Rattle.c_values.specs.Statuses.{status_by};
+ghost use Rattle.c_values.specs.Statuses.{IsStatus, status_by};
 ghost use Rattle.c_values.specs.Written.{WrittenOrWhy};
 ghost use Rattle.c_journals.specs.EffectParts.{asked_part_of, begin_field, begin_part, effect_part, engine_part, own_part, result_frame, result_part, send_part, sent_frame, sent_id};
 
@@ -44,7 +44,7 @@ fn begin_field(begun: &Beginning, place: usize) -> Option<&[u8]>
 fn write_begin(begun: &Beginning, read: &Option<Message>, place: usize, out: &mut [u8]) -> Told
     ensures written { WrittenOrWhy (status_by result.status) (begin_part begun.now read.now place)
         result.len out.old out.new }
-    ensures known { result.status ≤ 24 }
+    ensures known { IsStatus result.status }
 {
     if place / 8 == 0 {
         return match begin_field(begun, place) {
@@ -93,7 +93,7 @@ fn result_frame(alloc: Global, ends: ValueOrFailure) -> Result<Bytes, AllocError
 fn write_sent(alloc: Global, sent: Sent, place: usize, out: &mut [u8]) -> Told
     ensures written { WrittenOrWhy (status_by result.status) (send_part sent place) result.len
         out.old out.new }
-    ensures known { result.status ≤ 24 }
+    ensures known { IsStatus result.status }
 {
     match place {
         0 => written(sent.to.as_slice(), out),
@@ -109,7 +109,7 @@ fn write_sent(alloc: Global, sent: Sent, place: usize, out: &mut [u8]) -> Told
 fn write_result(alloc: Global, ends: ValueOrFailure, place: usize, out: &mut [u8]) -> Told
     ensures written { WrittenOrWhy (status_by result.status) (result_part ends place) result.len
         out.old out.new }
-    ensures known { result.status ≤ 24 }
+    ensures known { IsStatus result.status }
 {
     match place {
         1 => match result_frame(alloc, ends) {
@@ -130,7 +130,7 @@ fn write_engine(
 ) -> Told
     ensures written { WrittenOrWhy (status_by result.status) (engine_part effect read.now place)
         result.len out.old out.new }
-    ensures known { result.status ≤ 24 }
+    ensures known { IsStatus result.status }
 {
     match effect {
         Effect::Begin(begun) => write_begin(&begun, read, place, out),
@@ -144,7 +144,7 @@ fn write_engine(
 fn write_own(read: &Option<Message>, place: usize, out: &mut [u8]) -> Told
     ensures written { WrittenOrWhy (status_by result.status) (own_part read.now place) result.len
         out.old out.new }
-    ensures known { result.status ≤ 24 }
+    ensures known { IsStatus result.status }
 {
     match read {
         None => tell(Status::NotAFrame, 0),
@@ -163,7 +163,7 @@ fn write_asked(alloc: Global, read: &Option<Message>, place: usize, out: &mut [u
     ensures written { WrittenOrWhy (status_by result.status) (asked_part_of read.now place)
         result.len
         out.old out.new }
-    ensures known { result.status ≤ 24 }
+    ensures known { IsStatus result.status }
 {
     match read {
         None => tell(Status::NotAFrame, 0),
@@ -179,7 +179,7 @@ fn write_asked(alloc: Global, read: &Option<Message>, place: usize, out: &mut [u
 pub(crate) fn write_effect(alloc: Global, entry: &Bytes, place: usize, out: &mut [u8]) -> Told
     ensures written { WrittenOrWhy (status_by result.status) (effect_part entry.now place)
         result.len out.old out.new }
-    ensures known { result.status ≤ 24 }
+    ensures known { IsStatus result.status }
 {
     match message_at(alloc, entry.as_slice()) {
         Ok(read) => write_asked(alloc, &read, place, out),

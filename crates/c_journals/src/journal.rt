@@ -1,12 +1,12 @@
 //! `HeldJournal`: a stored journal, with what the last store of an output is to append and to feed.
-ghost use Rattle.std.specs.Prelude.{◌≡◌, ◌≤◌, List, [], length, OnOk, IfOk, IfErr, Some};
+ghost use Rattle.std.specs.Prelude.{◌≡◌, List, [], length, OnOk, IfOk, IfErr, Some};
 ghost use Rattle.journal_entries.specs.Arrivals.{arrival_fault};
 ghost use Rattle.journal_entries.specs.Given.{given_fault};
 ghost use Rattle.journal_store.specs.Journals.{Enters, IsFault, IsSameKept};
 ghost use Rattle.journal_store.specs.Stored.{IsStoringFault};
 ghost use Rattle.c_journals.specs.Journals.{EffectAnswered, EntryDone, FeedAnswered, FrameAnswered, IsEmptyJournal, IsUndone, KeepsAll, OutputDone, PartAnswered, RowAnswered, SameRows, StoresAll};
 ghost use Rattle.c_journals.specs.Rows.{row_in};
-ghost use Rattle.c_values.specs.Statuses.{status_by};
+ghost use Rattle.c_values.specs.Statuses.{IsStatus, status_by};
 ghost use Rattle.c_values.specs.declared.status.Status.TheVariants.{Done};
 
 use crate::effect::{EffectRow, effect_row, no_effect};
@@ -181,7 +181,7 @@ impl HeldJournal {
     pub fn store(&mut self, alloc: Global, version: Version, output: &[u8]) -> Stored
         ensures done { OutputDone version output.now (status_by result.status) result self.old
             self.new }
-        ensures known { result.status ≤ 24 }
+        ensures known { IsStatus result.status }
     {
         match store_only(
             alloc,
@@ -233,7 +233,7 @@ impl HeldJournal {
     pub fn read_effect(&self, alloc: Global, at: usize, place: usize, out: &mut [u8]) -> Told
         ensures read { PartAnswered at place (status_by result.status) result.len out.old out.new
             (Some self.now) }
-        ensures known { result.status ≤ 24 }
+        ensures known { IsStatus result.status }
     {
         match self.rows.get(at) {
             None => tell(Status::NoRow, 0),

@@ -1,7 +1,7 @@
 //! A row: an entry of a journal as a runtime stores it, with the completion id that it completes.
-ghost use Rattle.std.specs.Prelude.{◌≡◌, ◌≤◌, None, Some, IfOk};
+ghost use Rattle.std.specs.Prelude.{◌≡◌, None, Some, IfOk};
 ghost use Rattle.c_journals.specs.Rows.{no_row, row_in, entry_row};
-ghost use Rattle.c_values.specs.Statuses.{status_by};
+ghost use Rattle.c_values.specs.Statuses.{IsStatus, status_by};
 ghost use Rattle.c_values.specs.declared.status.Status.TheVariants.{Done};
 
 use bytes::Bytes;
@@ -36,7 +36,7 @@ pub struct Stored {
 /// What C gets of a store.
 pub(crate) fn answer_store(status: Status, rows: usize, feed: usize) -> Stored
     ensures status { status_by result.status ≡ status }
-    ensures known { result.status ≤ 24 }
+    ensures known { IsStatus result.status }
     ensures rows { result.rows ≡ rows }
     ensures feed { result.feed ≡ feed }
 {

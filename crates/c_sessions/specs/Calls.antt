@@ -14,6 +14,7 @@ use Rattle.c_sessions.specs.declared.session.Session.{Session}
 use Rattle.c_values.specs.declared.status.Status.{Status}
 use Rattle.c_values.specs.declared.status.Status.TheVariants as status
 use Rattle.c_values.specs.Written.{BytesWritten}
+use Rattle.c_sessions.specs.Sessions.{PeerCleared}
 use Rattle.c_sessions.specs.Replies.{kept_told, part_of, summary, numbers_by}
 
 -- what a call returns to C: its reply's summary; or, if it isn't made, the reason
@@ -49,22 +50,23 @@ OnVm does told (Some old) (Some new) last kept = IsCalled does told old new last
 OnVm does told None None last kept = (told ≡ kept_told status.NoVm) × (kept ≡ last)
 OnVm does told old new last kept = ⊥
 
--- A call is made of the VM of the session that there is. The last answer to a line stays, and so
--- does the output that C was lent, where it lies.
+-- A call is made of the VM of the session that there is. The last answer to a line stays, what
+-- waits beside the VM, and the output that C was lent, where it lies.
 abbrev pub CalledFromC : (Result Reply Status → View → View → Type 0) → Replied → Option Session
     → Option Session → Type 0
 CalledFromC does told (Some old) (Some new) = OnVm does told old.vm new.vm old.reply new.reply
-    × (new.answer ≡ old.answer) × (new.lent ≡ old.lent)
+    × (new.answer ≡ old.answer) × (new.lent ≡ old.lent) × (new.peer ≡ old.peer)
 CalledFromC does told None None = told ≡ kept_told status.NoSession
 CalledFromC does told old new = ⊥
 
 -- A VM is put into the session that there is, in the place of the last. If there is none, C gets
--- the reason. The last answer to a line stays, and so does the output that C was lent.
+-- the reason. The last answer to a line stays, and so does the output that C was lent. Nothing
+-- waits beside the new VM.
 abbrev pub MadeFromC : Global → VMOptions → Result Version Error → Replied → Option Session
     → Option Session → Type 0
 MadeFromC alloc options wanted told (Some old) (Some new) =
     VmIsMade alloc options wanted new.reply new.vm × (told ≡ summary new.reply)
-    × (new.answer ≡ old.answer) × (new.lent ≡ old.lent)
+    × (new.answer ≡ old.answer) × (new.lent ≡ old.lent) × PeerCleared old.peer new.peer
 MadeFromC alloc options wanted told None None = told ≡ kept_told status.NoSession
 MadeFromC alloc options wanted told old new = ⊥
 

@@ -1,3 +1,4 @@
 pub mod Replies
+pub mod Peers
 pub mod Sessions
 pub mod Calls

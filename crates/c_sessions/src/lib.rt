@@ -8,6 +8,7 @@ mod kind;
 pub mod laws;
 mod outgoing;
 mod parts;
+pub mod peer;
 mod replied;
 mod session;
 pub mod vm_call;

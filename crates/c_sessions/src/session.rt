@@ -7,11 +7,12 @@ ghost use Rattle.vm_types.specs.ContentTypes.{header_under};
 ghost use Rattle.vm_calls.specs.Making.{VmIsMade};
 ghost use Rattle.c_sessions.specs.Calls.{OnVm, part_read};
 ghost use Rattle.c_sessions.specs.Replies.{part_of, summary};
-ghost use Rattle.c_sessions.specs.Sessions.{AnswerRead, Drained, Fed, IsEmpty, Lends, outgoing_of};
+ghost use Rattle.c_sessions.specs.Sessions.{AnswerRead, Drained, DrainedBy, Fed, FedBy, IsCleared, IsEmpty, LendsBy, PeerCleared, outgoing_of};
 
 use crate::kept::keep;
 use crate::outgoing::Outgoing;
 use crate::parts::part_of;
+use crate::peer::{Peer, Spoken, peer_of};
 use crate::replied::{Replied, numbers_by, tell_status};
 use crate::vm_call::VmCall;
 use bytes::Bytes;
@@ -33,6 +34,8 @@ pub struct Session {
     pub answer: Text,
     pub reply: Reply,
     pub lent: Vec<u8>,
+    /// Between the VM and its peer, unless the peer speaks the VM's own layer.
+    pub peer: Option<Peer>,
 }
 
 /// Feeds a VM bytes of its input.
@@ -88,14 +91,15 @@ fn lend_vm(vm: &mut CoreVM, lent: &mut Vec<u8>)
 }
 
 impl Session {
-    pub fn new(alloc: Global) -> Session
-        ensures { IsEmpty result }
+    pub fn new(alloc: Global, spoken: Spoken) -> Session
+        ensures { IsEmpty spoken result }
     {
         Session {
             vm: None,
             answer: Text::empty(alloc),
             reply: Reply::Nothing,
             lent: Vec::new(alloc),
+            peer: peer_of(alloc, spoken),
         }
     }
 
@@ -111,6 +115,7 @@ impl Session {
     pub fn call<C: VmCall>(&mut self, alloc: Global, call: C) -> Replied
         ensures answer { self.new.answer ≡ self.old.answer }
         ensures lent { self.new.lent ≡ self.old.lent }
+        ensures peer { self.new.peer ≡ self.old.peer }
         ensures called { OnVm (C.does call) result self.old.vm self.new.vm self.old.reply
             self.new.reply }
     {
@@ -123,15 +128,26 @@ impl Session {
         }
     }
 
-    /// Puts a new VM in the place of the last. Returns its version, or why there is none.
+    /// Drops what waits beside the VM, both ways.
+    fn clear_peer(&mut self)
+        ensures { IsCleared self.old self.new }
+    {
+        if let Some(peer) = &mut self.peer {
+            peer.clear();
+        }
+    }
+
+    /// Puts a new VM in the place of the last, and drops what waits beside that. Returns its version, or why there is none.
     pub fn make(&mut self, alloc: Global, content_type: ContentType, options: VMOptions) -> Replied
         ensures answer { self.new.answer ≡ self.old.answer }
         ensures lent { self.new.lent ≡ self.old.lent }
+        ensures peer { PeerCleared self.old.peer self.new.peer }
         ensures made { VmIsMade alloc options
             (version_in (header_under content_type (codes "content-type")))
             self.new.reply self.new.vm }
         ensures told { result ≡ summary self.new.reply }
     {
+        self.clear_peer();
         let reply = make_anew(alloc, &mut self.vm, content_type, options);
         keep(&mut self.reply, reply)
     }
@@ -151,33 +167,46 @@ impl Session {
         ensures answer { self.new.answer ≡ self.old.answer }
         ensures reply { self.new.reply ≡ self.old.reply }
         ensures lent { self.new.lent ≡ self.old.lent }
-        ensures fed { Fed bytes.now result self.old.vm self.new.vm }
+        ensures fed { FedBy bytes.now result self.old.peer self.new.peer self.old.vm self.new.vm }
     {
-        match &mut self.vm {
-            Some(vm) => feed_vm(alloc, vm, bytes),
-            None => Status::NoVm,
+        let Some(vm) = &mut self.vm else {
+            return Status::NoVm;
+        };
+        match &mut self.peer {
+            Some(peer) => peer.feed(alloc, vm, bytes),
+            None => feed_vm(alloc, vm, bytes),
         }
     }
 
     /// Moves all of the VM's output to the front of `out`, if it has room for it. Returns the output's length either way.
-    pub fn take_output(&mut self, out: &mut [u8]) -> (Status, usize)
+    pub fn take_output(&mut self, alloc: Global, out: &mut [u8]) -> (Status, usize)
         ensures answer { self.new.answer ≡ self.old.answer }
         ensures reply { self.new.reply ≡ self.old.reply }
         ensures lent { self.new.lent ≡ self.old.lent }
-        ensures taken { Drained result.0 result.1 out.old out.new self.old.vm self.new.vm }
+        ensures taken { DrainedBy result.0 result.1 out.old out.new self.old.peer self.new.peer
+            self.old.vm self.new.vm }
     {
-        match &mut self.vm {
-            Some(vm) => drain_vm(vm, out),
-            None => (Status::NoVm, 0),
+        let Some(vm) = &mut self.vm else {
+            return (Status::NoVm, 0);
+        };
+        match &mut self.peer {
+            Some(peer) => peer.drain(alloc, vm, out),
+            None => drain_vm(vm, out),
         }
     }
 
-    /// Moves all of the VM's output to where C may read it, instead of what C was lent before.
+    /// Moves all of the VM's output to where C may read it, instead of what C was lent before. A peer that speaks another layer is lent nothing:
+    /// these are the VM's own bytes.
     pub fn lend_output(&mut self) -> Status
         ensures answer { self.new.answer ≡ self.old.answer }
         ensures reply { self.new.reply ≡ self.old.reply }
-        ensures lent { Lends result self.old.vm self.new.vm self.old.lent self.new.lent }
+        ensures peer { self.new.peer ≡ self.old.peer }
+        ensures lent { LendsBy self.old.peer result self.old.vm self.new.vm self.old.lent
+            self.new.lent }
     {
+        if self.peer.is_some() {
+            return Status::Layered;
+        }
         match &mut self.vm {
             Some(vm) => {
                 lend_vm(vm, &mut self.lent);

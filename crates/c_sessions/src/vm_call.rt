@@ -1,9 +1,9 @@
 //! Calls of a session's VM from C, whichever they are.
-ghost use Rattle.std.specs.Prelude.{◌≡◌, ◌≤◌, codes};
+ghost use Rattle.std.specs.Prelude.{◌≡◌, codes};
 ghost use Rattle.invocation_vm.specs.Making.{version_in};
 ghost use Rattle.vm_types.specs.ContentTypes.{header_under};
 ghost use Rattle.c_sessions.specs.Calls.{CalledFromC, MadeFromC, PartRead};
-ghost use Rattle.c_values.specs.Statuses.{status_by};
+ghost use Rattle.c_values.specs.Statuses.{IsStatus, status_by};
 
 use crate::held::{Vm, give, take};
 use crate::replied::{Replied, tell_status};
@@ -62,7 +62,7 @@ pub fn make(alloc: Global, vm: &mut Vm, content_type: ContentType, options: VMOp
 /// Writes a part of the last reply to the front of `out`, if it has room for it. Returns the part's length either way.
 pub fn read_part(alloc: Global, vm: &mut Vm, at: usize, out: &mut [u8]) -> Told
     ensures kept { vm.new.value ≡ vm.old.value }
-    ensures known { result.status ≤ 24 }
+    ensures known { IsStatus result.status }
     ensures read { PartRead at (status_by result.status) result.len out.old out.new
         vm.old.value }
 {

@@ -31,3 +31,5 @@ named_again status.NotASuspension = refl
 named_again status.NoJournal = refl
 named_again status.NoRow = refl
 named_again status.NotFrames = refl
+named_again status.NoFrame = refl
+named_again status.Layered = refl

@@ -1,5 +1,5 @@
 -- The numbers by which C sees how a call ended.
-use Rattle.std.specs.Prelude.{ℕ, ◌==◌, if◌then◌else◌}
+use Rattle.std.specs.Prelude.{◌≡◌, ℕ, ◌==◌, if◌then◌else◌}
 use Rattle.c_values.specs.declared.status.Status.{Status}
 use Rattle.c_values.specs.declared.status.Status.TheVariants as status
 
@@ -30,8 +30,10 @@ status_number status.NotASuspension = 21
 status_number status.NoJournal = 22
 status_number status.NoRow = 23
 status_number status.NotFrames = 24
+status_number status.NoFrame = 28
+status_number status.Layered = 29
 
--- what a number says, from 24 on the same
+-- what a number says; those of no status are as the last
 abbrev pub status_by : ℕ → Status
 status_by n =
     if n == 0 then status.Done
@@ -58,4 +60,10 @@ status_by n =
     else if n == 21 then status.NotASuspension
     else if n == 22 then status.NoJournal
     else if n == 23 then status.NoRow
-    else status.NotFrames
+    else if n == 24 then status.NotFrames
+    else if n == 28 then status.NoFrame
+    else status.Layered
+
+-- the number is one of a status
+abbrev pub IsStatus : ℕ → Type 0
+IsStatus n = status_number (status_by n) ≡ n

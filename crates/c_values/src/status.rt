@@ -1,6 +1,6 @@
 //! How a call from C ends.
-ghost use Rattle.std.specs.Prelude.{◌≡◌, ◌≤◌};
-ghost use Rattle.c_values.specs.Statuses.{status_by, status_number};
+ghost use Rattle.std.specs.Prelude.{◌≡◌};
+ghost use Rattle.c_values.specs.Statuses.{IsStatus, status_by, status_number};
 
 /// How a call from C ended: of a session, of a journal or on frames.
 #[derive(Clone, Copy, Debug, PartialEq, Eq)]
@@ -55,6 +55,10 @@ pub enum Status {
     NoRow,
     /// Bytes aren't whole frames.
     NotFrames,
+    /// The next message of the output has no frame in the layer that the session's peer speaks.
+    NoFrame,
+    /// The session's peer speaks another layer, and the call is in the VM's own bytes.
+    Layered,
 }
 
 impl Status {
@@ -63,7 +67,7 @@ impl Status {
     pub fn code(self) -> u32
         ensures code { result ≡ status_number self }
         ensures status { status_by result ≡ self }
-        ensures known { result ≤ 24 }
+        ensures known { IsStatus result }
     {
         match self {
             Status::Done => 0,
@@ -91,6 +95,8 @@ impl Status {
             Status::NoJournal => 22,
             Status::NoRow => 23,
             Status::NotFrames => 24,
+            Status::NoFrame => 28,
+            Status::Layered => 29,
         }
     }
 }

@@ -1,6 +1,6 @@
 //! What C gets of a call that tells a length.
-ghost use Rattle.std.specs.Prelude.{◌≡◌, ◌≤◌, Ok};
-ghost use Rattle.c_values.specs.Statuses.{status_by};
+ghost use Rattle.std.specs.Prelude.{◌≡◌, Ok};
+ghost use Rattle.c_values.specs.Statuses.{IsStatus, status_by};
 ghost use Rattle.c_values.specs.Written.{BytesWritten, WrittenOrWhy};
 
 use crate::status::Status;
@@ -17,7 +17,7 @@ pub struct Told {
 /// What a call returns to C: a status, and a length.
 pub fn tell(status: Status, len: usize) -> Told
     ensures status { status_by result.status ≡ status }
-    ensures known { result.status ≤ 24 }
+    ensures known { IsStatus result.status }
     ensures len { result.len ≡ len }
 {
     Told {
@@ -42,7 +42,7 @@ pub fn write(bytes: &[u8], out: &mut [u8]) -> (Status, usize)
 pub fn written(bytes: &[u8], out: &mut [u8]) -> Told
     ensures written { WrittenOrWhy (status_by result.status) (Ok bytes.now) result.len out.old
         out.new }
-    ensures known { result.status ≤ 24 }
+    ensures known { IsStatus result.status }
 {
     let (status, len) = write(bytes, out);
     tell(status, len)
@@ -52,7 +52,7 @@ pub fn written(bytes: &[u8], out: &mut [u8]) -> Told
 pub fn answer(found: Result<Bytes, Status>, out: &mut [u8]) -> Told
     ensures written { WrittenOrWhy (status_by result.status) found result.len out.old
         out.new }
-    ensures known { result.status ≤ 24 }
+    ensures known { IsStatus result.status }
 {
     match found {
         Ok(bytes) => written(bytes.as_slice(), out),

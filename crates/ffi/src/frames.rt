@@ -1,11 +1,11 @@
 //! The calls on frames: what one says, one with a value, the notification of a result, whether a suspension is awake, and in which
 //! field two commands differ.
-ghost use Rattle.std.specs.Prelude.{◌≤◌, Ok};
+ghost use Rattle.std.specs.Prelude.{Ok};
 ghost use Rattle.c_frames.specs.Answers.{IsJudged};
 ghost use Rattle.c_frames.specs.Making.{input_with, value_frame};
 ghost use Rattle.c_frames.specs.Messages.{RowRead, message_at, named_difference, part_behind};
 ghost use Rattle.c_frames.specs.Reading.{awake_at, notification_at};
-ghost use Rattle.c_values.specs.Statuses.{status_by};
+ghost use Rattle.c_values.specs.Statuses.{IsStatus, status_by};
 ghost use Rattle.c_values.specs.Written.{WrittenOrWhy};
 
 use c_frames::{
@@ -31,7 +31,7 @@ pub extern "C" fn proved_frame_read(alloc: Global, frame: &[u8]) -> FrameRow
 pub extern "C" fn proved_frame_part(alloc: Global, frame: &[u8], at: usize, out: &mut [u8]) -> Told
     ensures written { WrittenOrWhy (status_by result.status) (part_behind (message_at frame.now) at)
         result.len out.old out.new }
-    ensures known { result.status ≤ 24 }
+    ensures known { IsStatus result.status }
 {
     match message_at(alloc, frame) {
         Ok(message) => write_part(&message, at, out),
@@ -44,7 +44,7 @@ pub extern "C" fn proved_frame_part(alloc: Global, frame: &[u8], at: usize, out:
 pub extern "C" fn proved_value_frame(alloc: Global, value: &[u8], out: &mut [u8]) -> Told
     ensures written { WrittenOrWhy (status_by result.status) (Ok (value_frame value.now)) result.len
         out.old out.new }
-    ensures known { result.status ≤ 24 }
+    ensures known { IsStatus result.status }
 {
     match value_frame(alloc, value) {
         Ok(frame) => written(frame.as_slice(), out),
@@ -63,7 +63,7 @@ pub extern "C" fn proved_input_frame(
 ) -> Told
     ensures written { WrittenOrWhy (status_by result.status) (input_with frame.now value.now)
         result.len out.old out.new }
-    ensures known { result.status ≤ 24 }
+    ensures known { IsStatus result.status }
 {
     match input_with(alloc, frame, value) {
         Ok(found) => answer(found, out),
@@ -84,7 +84,7 @@ pub extern "C" fn proved_notification(
 ) -> Told
     ensures written { WrittenOrWhy (status_by result.status)
         (notification_at kind id name.now frame.now) result.len out.old out.new }
-    ensures known { result.status ≤ 24 }
+    ensures known { IsStatus result.status }
 {
     match notification_at(alloc, kind, id, name, frame) {
         Ok(found) => answer(found, out),
@@ -97,7 +97,7 @@ pub extern "C" fn proved_notification(
 pub extern "C" fn proved_is_awake(alloc: Global, suspension: &[u8], notifications: &[u8]) -> Judged
     ensures answered { IsJudged (status_by result.status)
         (awake_at suspension.now notifications.now) result.is_awake }
-    ensures known { result.status ≤ 24 }
+    ensures known { IsStatus result.status }
 {
     match awake_at(alloc, suspension, notifications) {
         Ok(found) => judge(found),
@@ -118,7 +118,7 @@ pub extern "C" fn proved_difference(
     ensures written { WrittenOrWhy (status_by result.status)
         (named_difference ignore_payloads (message_at recorded.now) (message_at asked.now))
         result.len out.old out.new }
-    ensures known { result.status ≤ 24 }
+    ensures known { IsStatus result.status }
 {
     match message_at(alloc, recorded) {
         Ok(recorded) => write_difference(alloc, &recorded, asked, ignore_payloads, out),

@@ -1,10 +1,10 @@
 //! The calls of a stored journal.
-ghost use Rattle.std.specs.Prelude.{◌≡◌, ◌≤◌, None};
+ghost use Rattle.std.specs.Prelude.{◌≡◌, None};
 ghost use Rattle.journal_entries.specs.Arrivals.{arrival_fault};
 ghost use Rattle.journal_entries.specs.Given.{given_fault};
 ghost use Rattle.c_journals.specs.Journals.{EffectAnswered, HasEntries, EntryAnswered, FeedAnswered, FrameAnswered, IsNewJournal, CommitAnswered, OutputAnswered, PartAnswered, RowAnswered, UndoAnswered};
 ghost use Rattle.c_journals.specs.Statuses.{version_named};
-ghost use Rattle.c_values.specs.Statuses.{status_by};
+ghost use Rattle.c_values.specs.Statuses.{IsStatus, status_by};
 
 use c_journals::{EffectRow, Journal, Row, Stored, calls};
 use c_values::Told;
@@ -14,7 +14,7 @@ use std::alloc::Global;
 #[unsafe(no_mangle)]
 pub extern "C" fn proved_journal_new(alloc: Global, journal: &mut Journal) -> u32
     ensures made { IsNewJournal (status_by result) journal.new.value }
-    ensures known { result ≤ 24 }
+    ensures known { IsStatus result }
 {
     calls::open(alloc, journal)
 }
@@ -31,7 +31,7 @@ pub extern "C" fn proved_journal_free(alloc: Global, journal: &mut Journal)
 #[unsafe(no_mangle)]
 pub extern "C" fn proved_journal_entries(alloc: Global, journal: &mut Journal) -> Told
     ensures kept { journal.new.value ≡ journal.old.value }
-    ensures known { result.status ≤ 24 }
+    ensures known { IsStatus result.status }
     ensures counted { HasEntries (status_by result.status) result.len journal.old.value }
 {
     calls::entries(alloc, journal)
@@ -65,7 +65,7 @@ pub extern "C" fn proved_journal_store(
 ) -> Stored
     ensures stored { OutputAnswered (version_named version) output.now (status_by result.status)
         result journal.old.value journal.new.value }
-    ensures known { result.status ≤ 24 }
+    ensures known { IsStatus result.status }
 {
     calls::store(alloc, journal, version, output)
 }
@@ -102,7 +102,7 @@ pub extern "C" fn proved_journal_effect_part(
     out: &mut [u8],
 ) -> Told
     ensures kept { journal.new.value ≡ journal.old.value }
-    ensures known { result.status ≤ 24 }
+    ensures known { IsStatus result.status }
     ensures read { PartAnswered at place (status_by result.status) result.len out.old out.new
         journal.old.value }
 {
@@ -118,7 +118,7 @@ pub extern "C" fn proved_journal_frame(
     out: &mut [u8],
 ) -> Told
     ensures kept { journal.new.value ≡ journal.old.value }
-    ensures known { result.status ≤ 24 }
+    ensures known { IsStatus result.status }
     ensures read { FrameAnswered at (status_by result.status) result.len out.old out.new
         journal.old.value }
 {
@@ -133,7 +133,7 @@ pub extern "C" fn proved_journal_answer(
     out: &mut [u8],
 ) -> Told
     ensures kept { journal.new.value ≡ journal.old.value }
-    ensures known { result.status ≤ 24 }
+    ensures known { IsStatus result.status }
     ensures read { FeedAnswered (status_by result.status) result.len out.old out.new
         journal.old.value }
 {
@@ -144,7 +144,7 @@ pub extern "C" fn proved_journal_answer(
 #[unsafe(no_mangle)]
 pub extern "C" fn proved_journal_keep(alloc: Global, journal: &mut Journal) -> u32
     ensures committed { CommitAnswered (status_by result) journal.old.value journal.new.value }
-    ensures known { result ≤ 24 }
+    ensures known { IsStatus result }
 {
     calls::keep(alloc, journal)
 }
@@ -153,7 +153,7 @@ pub extern "C" fn proved_journal_keep(alloc: Global, journal: &mut Journal) -> u
 #[unsafe(no_mangle)]
 pub extern "C" fn proved_journal_undo(alloc: Global, journal: &mut Journal) -> u32
     ensures undone { UndoAnswered (status_by result) journal.old.value journal.new.value }
-    ensures known { result ≤ 24 }
+    ensures known { IsStatus result }
 {
     calls::undo(alloc, journal)
 }

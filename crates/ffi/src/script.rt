@@ -1,17 +1,20 @@
 //! Lines of a script: one is performed on a session's VM, and its answer is kept in the session.
-ghost use Rattle.std.specs.Prelude.{◌≤◌};
-ghost use Rattle.c_values.specs.Statuses.{status_by};
-ghost use Rattle.ffi.specs.Script.{LineDone, LineSent};
+ghost use Rattle.c_values.specs.Statuses.{IsStatus, status_by};
+ghost use Rattle.ffi.specs.Script.{LineAsked, LineSent};
 
 use c_sessions::{Session, Vm, give, take};
 use c_values::{Status, Told, tell};
 use call_scripts::run::answer;
 use std::alloc::Global;
 
-/// Performs a line, and keeps its answer. Out of memory, the last answer stays, and the line may have been performed.
+/// Performs a line, and keeps its answer. Out of memory, the last answer stays, and the line may have been performed. A session whose peer speaks
+/// another layer has no lines, since these have the VM's own bytes, and may put another VM in the place of the last.
 fn send(session: &mut Session, alloc: Global, line: &[u8]) -> Status
-    ensures { LineDone alloc line.now result session.old session.new }
+    ensures { LineAsked session.old.peer alloc line.now result session.old session.new }
 {
+    if session.peer.is_some() {
+        return Status::Layered;
+    }
     match answer(alloc, &mut session.vm, line) {
         Ok(answer) => {
             session.answer = answer.into_text();
@@ -26,7 +29,7 @@ fn send(session: &mut Session, alloc: Global, line: &[u8]) -> Status
 pub extern "C" fn proved_line(alloc: Global, vm: &mut Vm, line: &[u8]) -> Told
     ensures sent { LineSent alloc line.now (status_by result.status) result.len vm.old.value
         vm.new.value }
-    ensures known { result.status ≤ 24 }
+    ensures known { IsStatus result.status }
 {
     match take(alloc, vm) {
         Some(mut session) => {

@@ -1,6 +1,6 @@
 //! Frames as lines, and lines as frames.
-ghost use Rattle.std.specs.Prelude.{◌≡◌, ◌≤◌, IfErr, IfOk};
-ghost use Rattle.c_values.specs.Statuses.{status_by};
+ghost use Rattle.std.specs.Prelude.{◌≡◌, IfErr, IfOk};
+ghost use Rattle.c_values.specs.Statuses.{IsStatus, status_by};
 ghost use Rattle.c_values.specs.Written.{WrittenOrWhy};
 ghost use Rattle.frame_lines.specs.FrameLines.{LineShows};
 ghost use Rattle.frame_lines.specs.Printed.{frame_text};
@@ -59,7 +59,7 @@ fn shown_at(alloc: Global, line: &[u8]) -> Result<Bytes, Status>
 pub extern "C" fn proved_frame_line(alloc: Global, frame: &[u8], out: &mut [u8]) -> Told
     ensures written { WrittenOrWhy (status_by result.status) (line_at frame.now) result.len
         out.old out.new }
-    ensures known { result.status ≤ 24 }
+    ensures known { IsStatus result.status }
 {
     match line_at(alloc, frame) {
         Ok(found) => answer(found, out),
@@ -72,7 +72,7 @@ pub extern "C" fn proved_frame_line(alloc: Global, frame: &[u8], out: &mut [u8])
 #[unsafe(no_mangle)]
 pub extern "C" fn proved_line_frame(alloc: Global, line: &[u8], out: &mut [u8]) -> Told
     ensures read { LineRead (status_by result.status) line.now result.len out.old out.new }
-    ensures known { result.status ≤ 24 }
+    ensures known { IsStatus result.status }
 {
     match shown_at(alloc, line) {
         Ok(frame) => written(frame.as_slice(), out),

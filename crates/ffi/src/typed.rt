@@ -1,7 +1,7 @@
 //! The typed calls of the VM.
-ghost use Rattle.std.specs.Prelude.{◌≡◌, ◌≤◌};
+ghost use Rattle.std.specs.Prelude.{◌≡◌};
 ghost use Rattle.c_sessions.specs.Calls.{CalledFromC, PartRead};
-ghost use Rattle.c_values.specs.Statuses.{status_by};
+ghost use Rattle.c_values.specs.Statuses.{IsStatus, status_by};
 ghost use Rattle.c_calls.specs.Making.{MakesAsGiven};
 ghost use Rattle.c_calls.specs.Calls.{AsksCompleted, AsksIndex, AsksReady, AsksState, AttachesTo, AwaitsHandle, AwaitsNodes, CallsHandler, CallsWithDeadline, CancelsInvocation, ClearsAllState, ClearsState, ClosesInput, CompletesAwakeable, CompletesPromise, CompletesSignal, EndsHandler, GetsOutput, GetsPromise, MakesAwakeable, MakesSignal, PeeksPromise, ProposesResult, ProposesRetryable, ReadsEphemerally, ReadsHead, ReadsInput, ReadsKeys, ReadsState, ReportsError, CallsARun, SendsTo, SetsState, CallsSleep, TakesResult, TakesEphemeral, TakesOutputOf, WritesOutput};
 
@@ -34,7 +34,7 @@ use std::alloc::Global;
 #[unsafe(no_mangle)]
 pub extern "C" fn proved_part(alloc: Global, vm: &mut Vm, at: usize, out: &mut [u8]) -> Told
     ensures kept { vm.new.value ≡ vm.old.value }
-    ensures known { result.status ≤ 24 }
+    ensures known { IsStatus result.status }
     ensures read { PartRead at (status_by result.status) result.len out.old out.new
         vm.old.value }
 {

@@ -21,6 +21,12 @@ NO_PART: Final = 9
 BUSY: Final = 25
 BAD_HANDLE: Final = 26
 BAD_POINTER: Final = 27
+NO_FRAME: Final = 28
+LAYERED: Final = 29
+
+LAYER_OWN: Final = 0
+LAYER_SHORT: Final = 1
+LAYER_SHORT_V6: Final = 2
 
 SINGLE: Final = 0
 FIRST_COMPLETED: Final = 1
@@ -231,6 +237,8 @@ TEXTS: Final = {
     BUSY: "a call of another thread has not ended; let a lock guard it",
     BAD_HANDLE: "the handle is of something else",
     BAD_POINTER: "a pointer is NULL that may not be",
+    NO_FRAME: "the next message has no frame in the layer of the peer",
+    LAYERED: "the peer speaks another layer, and the call is in the own bytes of the VM",
 }
 """What each status says."""
 

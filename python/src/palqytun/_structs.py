@@ -355,6 +355,7 @@ class FrameRow(ctypes.Structure):
 
 FUNCTIONS: dict[str, tuple[list[Any], Any]] = {
     "open": ([ctypes.POINTER(ctypes.c_void_p)], ctypes.c_uint32),
+    "open_over": ([ctypes.POINTER(ctypes.c_void_p), ctypes.c_uint32], ctypes.c_uint32),
     "line": ([ctypes.c_void_p, ctypes.c_char_p, ctypes.c_size_t], Told),
     "answer": ([ctypes.c_void_p, ctypes.c_char_p, ctypes.c_size_t], Told),
     "feed": ([ctypes.c_void_p, ctypes.c_char_p, ctypes.c_size_t], ctypes.c_uint32),

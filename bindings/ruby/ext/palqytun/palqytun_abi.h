@@ -24,6 +24,11 @@ enum {
     PALQYTUN_BUSY = 25,
     PALQYTUN_BAD_HANDLE = 26,
     PALQYTUN_BAD_POINTER = 27,
+    PALQYTUN_NO_FRAME = 28,
+    PALQYTUN_LAYERED = 29,
+    PALQYTUN_LAYER_OWN = 0,
+    PALQYTUN_LAYER_SHORT = 1,
+    PALQYTUN_LAYER_SHORT_V6 = 2,
     PALQYTUN_SINGLE = 0,
     PALQYTUN_FIRST_COMPLETED = 1,
     PALQYTUN_ALL_COMPLETED = 2,
@@ -333,6 +338,7 @@ typedef struct {
 bool pq_load(const char *path, char *said, size_t said_len);
 
 uint32_t pq_open(uintptr_t *vm);
+uint32_t pq_open_over(uintptr_t *vm, uint32_t layer);
 uint32_t pq_line(uintptr_t vm, const uint8_t *line, size_t line_len, palqytun_told *returned);
 uint32_t pq_answer(uintptr_t vm, uint8_t *out, size_t out_len, palqytun_told *returned);
 uint32_t pq_feed(uintptr_t vm, const uint8_t *bytes, size_t bytes_len);

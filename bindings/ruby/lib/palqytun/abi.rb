@@ -19,6 +19,11 @@ module Palqytun
     BUSY = 25
     BAD_HANDLE = 26
     BAD_POINTER = 27
+    NO_FRAME = 28
+    LAYERED = 29
+    LAYER_OWN = 0
+    LAYER_SHORT = 1
+    LAYER_SHORT_V6 = 2
     SINGLE = 0
     FIRST_COMPLETED = 1
     ALL_COMPLETED = 2
@@ -207,6 +212,8 @@ module Palqytun
       25 => [:busy, "a call of another thread has not ended; let a lock guard it"],
       26 => [:bad_handle, "the handle is of something else"],
       27 => [:bad_pointer, "a pointer is NULL that may not be"],
+      28 => [:no_frame, "the next message has no frame in the layer of the peer"],
+      29 => [:layered, "the peer speaks another layer, and the call is in the own bytes of the VM"],
     }.freeze
 
     # What a cancelled await cancels; or the cancel signal ends no await.

@@ -18,6 +18,11 @@ final class Abi {
     static final int BUSY = 25;
     static final int BAD_HANDLE = 26;
     static final int BAD_POINTER = 27;
+    static final int NO_FRAME = 28;
+    static final int LAYERED = 29;
+    static final int LAYER_OWN = 0;
+    static final int LAYER_SHORT = 1;
+    static final int LAYER_SHORT_V6 = 2;
     static final int SINGLE = 0;
     static final int FIRST_COMPLETED = 1;
     static final int ALL_COMPLETED = 2;

@@ -30,7 +30,9 @@ public enum Status {
     NOT_FRAMES(24, "the notifications aren't whole frames"),
     BUSY(25, "a call of another thread has not ended; let a lock guard it"),
     BAD_HANDLE(26, "the handle is of something else"),
-    BAD_POINTER(27, "a pointer is NULL that may not be");
+    BAD_POINTER(27, "a pointer is NULL that may not be"),
+    NO_FRAME(28, "the next message has no frame in the layer of the peer"),
+    LAYERED(29, "the peer speaks another layer, and the call is in the own bytes of the VM");
 
     private final int number;
     private final String text;
