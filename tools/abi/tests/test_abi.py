@@ -81,7 +81,7 @@ class Numbers(unittest.TestCase):
         self.assertIn("has the versions (5, 9), and the sources have (5, 8)", next(checks.misnumbered(TOP, header)))
 
     def test_a_status_without_a_text(self) -> None:
-        header = self.read(self.header.replace("PALQYTUN_NO_ROW = 23", "PALQYTUN_NO_ROW = 23,\n    PALQYTUN_NO_LUCK = 28"))
+        header = self.read(self.header.replace("PALQYTUN_NO_ROW = 23", "PALQYTUN_NO_ROW = 23,\n    PALQYTUN_NO_LUCK = 99"))
         with self.assertRaisesRegex(Refused, "no text, or are none: NO_LUCK"):
             words.statuses(header)
 
