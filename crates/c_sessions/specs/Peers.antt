@@ -108,9 +108,15 @@ pub record DrainsOver (told : Status) (len : ℕ) (before after : List ℕ) (p q
   pub taken : TakenOver ended p mid old new
   pub handed : HandedOut (stops_by ended) told len before after mid q
 
--- The VM's output is taken in the peer's layer. Without memory nothing is lost: what was taken
--- waits for C.
+-- No memory is found for it. Nothing is lost: what was taken waits for C.
+pub record StarvesTaking (told : Status) (len : ℕ) (before after : List ℕ) (p q : Peer)
+    (old new : CoreVM) : Type 0 where
+  pub status : told ≡ status.NoMemory
+  pub taken : TakenOver (Err Memory) p q old new
+  pub waits : len ≡ length q.sent.items
+  pub room : after ≡ before
+
+-- the VM's output is taken in the peer's layer
 abbrev pub DrainedOver : Status → ℕ → List ℕ → List ℕ → Peer → Peer → CoreVM → CoreVM → Type 0
-DrainedOver status.NoMemory len before after p q old new = TakenOver (Err Memory) p q old new
-    × (len ≡ length q.sent.items) × (after ≡ before)
 DrainedOver told len before after p q old new = DrainsOver told len before after p q old new
+    ⊎ StarvesTaking told len before after p q old new

@@ -1,6 +1,6 @@
 //! A peer of a session that speaks another layer than the VM: what stands between the two, and what C hasn't taken yet.
 ghost use Rattle.std.specs.Prelude.{◌≡◌, []};
-ghost use Rattle.c_sessions.specs.Peers.{DrainedOver, FedOver, HandedOut, IsPeerOf, NothingWaits, SpeaksShort, layer_at, layer_to, version_over};
+ghost use Rattle.c_sessions.specs.Peers.{DrainedOver, FedOver, HandedOut, IsPeerOf, NothingWaits, SpeaksShort, TakenOver, layer_at, layer_to, version_over};
 
 use bytes::Bytes;
 use c_values::Status;
@@ -148,13 +148,21 @@ impl Peer {
         (Status::Done, len)
     }
 
+    /// Takes the VM's output as far as it has a frame in the peer's layer.
+    fn collect(&mut self, vm: &mut CoreVM) -> Result<(), LayerFault>
+        ensures { TakenOver result self.old self.new vm.old vm.new }
+    {
+        self.speak_to(vm);
+        self.transcoder.take_output(vm, &mut self.sent)
+    }
+
     /// Moves all of the VM's output that has a frame in the peer's layer to the front of `out`, if it has room for it. Returns its length
     /// either way. A message without a frame stops the rest: once C has taken what stood before it, each further call says so.
+    #[tactic(auto, using(crate::proofs::Drained::handed, crate::proofs::Drained::starved))]
     pub fn drain(&mut self, alloc: Global, vm: &mut CoreVM, out: &mut [u8]) -> (Status, usize)
         ensures { DrainedOver result.0 result.1 out.old out.new self.old self.new vm.old vm.new }
     {
-        self.speak_to(vm);
-        match self.transcoder.take_output(vm, &mut self.sent) {
+        match self.collect(vm) {
             Ok(()) => self.hand_out(alloc, false, out),
             Err(LayerFault::Memory) => (Status::NoMemory, self.sent.len()),
             Err(_) => self.hand_out(alloc, true, out),
