@@ -36,6 +36,7 @@ sys.path[:0] = [str(SOURCES), str(HERE)]
 
 import emptying  # noqa: E402
 import faulty  # noqa: E402
+import forking  # noqa: E402
 from checked import Found, Wrong, check, left, rows, settle, submit, wait  # noqa: E402
 from palqytun.runtime.database.plain import Plain  # noqa: E402
 
@@ -418,7 +419,7 @@ class Workers:
         self.log = (folder / "log").open("a")
         self.all = [self.start(at) for at in range(count)]
 
-    def start(self, at: int) -> subprocess.Popen[bytes]:
+    def start(self, at: int) -> subprocess.Popen[bytes] | forking.Worker:
         """The worker of a place."""
         return subprocess.Popen(self.command, env=self.environment, stdout=self.log, stderr=self.log)
 
@@ -453,11 +454,34 @@ class Workers:
         self.log.close()
 
 
+class Forked(Workers):
+    """A crew whose workers begin in a moment (forking.py), so they are at work for most of the time, and not beginning."""
+
+    def __init__(self, url: str, count: int, folder: pathlib.Path, *, idle: float, wrong: str = ""):
+        assert not wrong
+        self._forking: forking.Forking | None = None
+        super().__init__(url, count, folder, idle=idle)
+
+    def start(self, at: int) -> forking.Worker:
+        if self._forking is None:
+            self._forking = forking.Forking(self.environment)
+        return self._forking.begin(self.command[3:], self.environment, self.log.name)
+
+    def end(self) -> None:
+        super().end()
+        if self._forking is not None:
+            self._forking.close()
+
+
 class Steady(Workers):
     """A crew whose workers end in an orderly way, so nobody waits for the end of a lease. Their times are so long that on a busy host too no lease ends
     by itself, and each effect ends within the grace: else one would be executed twice."""
 
     lease, grace = 30.0, 120.0
+
+
+class ForkedSteady(Forked, Steady):
+    """The same, forked."""
 
 
 class Mixed(Workers):

@@ -131,13 +131,13 @@ class KillsOfMany(OnAServer):
     count = 90
 
     def test_kills_pauses_and_lost_connections(self) -> None:
-        options = {"workers": 3, "pauses": True, "disconnects": True, "reference": self.reference}
+        options = {"workers": 3, "pauses": True, "disconnects": True, "reference": self.reference, "crew": scenarios.Forked}
         report = scenarios.kills(self.url, self.folder / "kills", faults=30, **options)
         print(report, file=sys.stderr)
         self.assertEqual((report.pauses, report.disconnects), (3, 6))
 
     def test_workers_that_are_told_to_stop(self) -> None:
-        options = {"workers": 3, "stops": True, "reference": self.reference, "crew": scenarios.Steady}
+        options = {"workers": 3, "stops": True, "reference": self.reference, "crew": scenarios.ForkedSteady}
         report = scenarios.kills(self.url, self.folder / "stops", faults=30, **options)
         print(report, file=sys.stderr)
         self.assertEqual(report.stops, 30)
