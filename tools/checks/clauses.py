@@ -205,13 +205,16 @@ def case_names(found: list[Token], at: int) -> list[str]:
     return []
 
 
+NO_WORD = re.compile(r"-?[\d_]+|«.*»")
+
+
 def cited(found: list[Token]) -> Iterator[tuple[Token, str | None]]:
     """Yields the words that are cited, each with the member after it; but for fields and arguments by name, as in `{ x = e }`."""
     for at, token in enumerate(found):
         after = found[at + 1] if at + 1 < len(found) else Token("mark", "", 0)
         before = found[at - 1] if at else Token("mark", "", 0)
         is_set = before.kind == "mark" and before.text in {"{", ";"} and after.text == "=" and after.kind == "name"
-        if token.kind == "name" and not is_set and not re.fullmatch(r"-?[\d_]+|«.*»", token.text):
+        if token.kind == "name" and not is_set and not NO_WORD.fullmatch(token.text):
             yield token, after.text[1:] if after.kind == "member" else None
 
 

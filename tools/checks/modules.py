@@ -19,6 +19,8 @@ class Modules:
         self.crates = {path.name for path in (top / "crates").iterdir()}
         self.known: dict[str, dict[str, bool] | None] = {}
         self.passes: dict[str, dict[str, str]] = {}
+        self.lacking: dict[tuple[str, str | None], str | None] = {}
+        self.texts: dict[Path, tuple[str, set[str]]] = {}
 
     def passed(self, crate: str) -> dict[str, str]:
         """Returns the modules that a crate's specs pass on, by their last word."""
@@ -56,8 +58,20 @@ class Modules:
                 return path, rest[most:]
         return None
 
+    def words(self, path: Path) -> tuple[str, set[str]]:
+        """Returns a file's text and its words."""
+        if path not in self.texts:
+            text = path.read_text()
+            self.texts[path] = text, set(re.findall(r"\w+", text))
+        return self.texts[path]
+
     def lacks(self, module: str, name: str | None) -> str | None:
         """Returns why a module, or a name in it, can't be imported; none if it can."""
+        if (module, name) not in self.lacking:
+            self.lacking[module, name] = self._lacks(module, name)
+        return self.lacking[module, name]
+
+    def _lacks(self, module: str, name: str | None) -> str | None:
         module = self.home(module)
         parts = module.split(".")
         if parts[0] != "Rattle" or parts[1] not in self.crates or len(parts) < 4:
@@ -77,9 +91,8 @@ class Modules:
         if not source or not source[1]:
             return f"there is no source of {module}"
         path, (type_name, *rest) = source
-        text = path.read_text()
-        declared = re.search(rf"\b(?:struct|enum|trait|type) {re.escape(type_name)}\b", text)
-        if not declared and type_name not in re.findall(r"\w+", text):
+        text, words = self.words(path)
+        if type_name not in words and not re.search(rf"\b(?:struct|enum|trait|type) {re.escape(type_name)}\b", text):
             return f"the source of {module} declares no {type_name}"
         if rest == ["TheVariants"] and name and "-" not in name and not re.search(rf"^\s+{re.escape(name)}\b", text, re.MULTILINE):
             return f"{module} has no {name}"
