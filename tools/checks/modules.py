@@ -11,6 +11,13 @@ from .clauses import bare, defined
 GENERATED = {"Goals", "Given", "Code", "Statement", "TheSendSync"}
 
 
+def libraries(path: Path) -> dict[str, set[str]]:
+    """Returns the libraries that each line of crates.txt names; none if there is no such file."""
+    lines = path.read_text(encoding="utf-8").splitlines() if path.is_file() else []
+    rows = (it.partition("#")[0].partition(":") for it in lines)
+    return {left.split()[0]: set(right.split()) for left, _, right in rows if left.strip()}
+
+
 class Modules:
     """The crates of a tree: what each file of specs and proofs defines."""
 
@@ -21,6 +28,14 @@ class Modules:
         self.passes: dict[str, dict[str, str]] = {}
         self.lacking: dict[tuple[str, str | None], str | None] = {}
         self.texts: dict[Path, tuple[str, set[str]]] = {}
+        self.libraries = libraries(top / "crates.txt")
+
+    def unlisted(self, crate: str, module: str) -> str | None:
+        """Says that a crate names a module of a library that its line of crates.txt lacks, if that is so."""
+        library = module.split(".")[1]
+        if library == crate or library not in self.crates or library in self.libraries.get(crate, {library}):
+            return None
+        return f"{crate} names {library}, which its line of crates.txt lacks"
 
     def passed(self, crate: str) -> dict[str, str]:
         """Returns the modules that a crate's specs pass on, by their last word."""
