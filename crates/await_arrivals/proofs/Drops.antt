@@ -30,7 +30,7 @@ pub kept_or_not : {T E : Type 0} (answer : Result T E) (xs ys : List Entry) → 
 kept_or_not (Ok u) xs ys ok err = ap not_taken ok ∙ given_kept xs
 kept_or_not (Err u) xs ys ok err = ap not_taken err
 
--- where none was taken, none is dropped
+-- if none was taken, none is dropped
 all_kept : (xs : List Entry) → all_given xs ≡ true → with_results xs ≡ xs
 all_kept [] a = refl
 all_kept (x ∷ xs) a = all_at x.id x.result xs (all_kept xs) a

@@ -1,4 +1,4 @@
-//! A number that is all that a line has behind its name.
+//! A number that is all that a line has after its name.
 ghost use Rattle.std.specs.Prelude.{IfErr, IfOk};
 ghost use Rattle.lines.specs.Readings.{Blames};
 ghost use Rattle.line_parts.specs.Handles.{IsEphemeralId, IsHandle};
