@@ -1,7 +1,7 @@
 // What the tests share: a parent and a child, and a schedule in which attempts are lost once.
 use bytes::Bytes;
-use call_lines::plan::{Plan, Plan};
-use call_lines::reading::{plan_of, plan_of};
+use call_lines::plan::Plan;
+use call_lines::reading::plan_of;
 use engine_fences::{Asked, FencedEngine};
 use engine_inboxes::{Order, Target};
 use engines::{Engine, Happening, Member};

@@ -2,7 +2,7 @@ use crate::bench::{
     Course, Loss, asks, asks_in_vain, does, member_at, order, played, targets, with_loss,
 };
 use bytes::Bytes;
-use call_lines::plan::{Plan, Plan};
+use call_lines::plan::Plan;
 use engine_fences::FencedEngine;
 use engine_inboxes::Target;
 use engines::{Engine, Happening};
