@@ -145,8 +145,9 @@ fn explain_call(
     }
 }
 
-/// Writes an error of the VM's own: its code with its name, its text if that is another, and a colon.
-pub fn show_error(error: &Error, line: &mut Line) -> Result<(), AllocError> {
+/// An error of the VM's own: its code with its name, its text if that is another, and a colon.
+pub fn shown_error(alloc: Global, error: &Error) -> Result<Line, AllocError> {
+    let mut line = Line::new(alloc);
     line.number(u64::from(error.code()))?;
     line.word(" ")?;
     if let Some(name) = name_of(error.code())
@@ -156,7 +157,8 @@ pub fn show_error(error: &Error, line: &mut Line) -> Result<(), AllocError> {
         line.word(": ")?;
     }
     line.word(error.message())?;
-    line.word(": ")
+    line.word(": ")?;
+    Ok(line)
 }
 
 /// The code and the text of the error by which this call has failed the VM, and what it is about. There is none if the VM hasn't failed, or
@@ -170,8 +172,7 @@ pub fn explained(
     let Some(error) = &vm.machine.failure else {
         return Ok(None);
     };
-    let mut line = Line::new(alloc);
-    show_error(error, &mut line)?;
+    let mut line = shown_error(alloc, error)?;
     if explain_call(vm, moment, call, error, &mut line)? {
         Ok(Some(line))
     } else {

@@ -1,6 +1,6 @@
 //! What the errors of a script's rounds are about.
 use call_details::attempt::explain_attempt;
-use call_details::explain::show_error;
+use call_details::explain::shown_error;
 use journal_protocol::{Error, Version};
 use lines::line::Line;
 use std::alloc::{AllocError, Global};
@@ -9,8 +9,7 @@ use world_scripts::handed::{FailedRound, failed_rounds};
 
 /// Whether a line begins with this error.
 fn is_about(alloc: Global, told: &Line, error: &Error) -> Result<bool, AllocError> {
-    let mut line = Line::new(alloc);
-    show_error(error, &mut line)?;
+    let line = shown_error(alloc, error)?;
     Ok(told.as_str().starts_with(line.as_str()))
 }
 

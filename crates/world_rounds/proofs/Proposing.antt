@@ -269,17 +269,21 @@ stand_then u v w first last = (last.0 ∙ first.0, more_than (next_of u) (next_o
 stand_alike : (v w : Machine) → w.runs ≡ v.runs → w.counters ≡ v.counters → RunsStand v w
 stand_alike v w runs counters = (ap run_ids runs, subst (λ n. next_of v ≤ n) (ap (λ c. c.completion) (sym counters)) (same_number (next_of v)))
 
+-- a pair in a pair is no triple
+lives_by : (v w : Machine) → (w.failure ≡ None → (v.failure ≡ None) × RunsStand v w) → LivesOn v w
+lives_by v w stands none = let is = stands none in (is.0, is.1.0, is.1.1)
+
 lives_same : (v : Machine) → LivesOn v v
-lives_same = still.lives_same RunsStand stand_same stand_then stand_alike
+lives_same v = lives_by v v (still.lives_same RunsStand stand_same stand_then stand_alike v)
 
 failed_lives : (e : Error) (v w : Machine) → w.failure ≡ Some e → LivesOn v w
 failed_lives e v w is = still.failed_lives e w is
 
 input_lives : (v : View) (bytes : List ℕ) → LivesOn v.machine (after_input v bytes).machine
-input_lives = still.input_lives RunsStand stand_same stand_then stand_alike
+input_lives v bytes = lives_by v.machine (after_input v bytes).machine (still.input_lives RunsStand stand_same stand_then stand_alike v bytes)
 
 closing_lives : (v : View) → LivesOn v.machine (after_closing v).machine
-closing_lives = still.closing_lives RunsStand stand_same stand_then stand_alike
+closing_lives v = lives_by v.machine (after_closing v).machine (still.closing_lives RunsStand stand_same stand_then stand_alike v)
 
 among_lives : (raws : List RawMessage) (v w : Machine) → StarvesAmong raws v w → LivesOn v w
 among_lives raws v w s = failed_lives _ v w s.starved.failure
