@@ -161,6 +161,24 @@ pub fn shown_error(alloc: Global, error: &Error) -> Result<Line, AllocError> {
     Ok(line)
 }
 
+/// The error by which this call has failed the VM, and what it is about. The call is given on before anything can fail, since an exit on
+/// which it is dropped is dear to prove.
+fn explain_failure(
+    alloc: Global,
+    vm: &CoreVM,
+    moment: &Moment,
+    call: Call,
+    error: &Error,
+) -> Result<Option<Line>, AllocError> {
+    let mut about = Line::new(alloc);
+    if !explain_call(vm, moment, call, error, &mut about)? {
+        return Ok(None);
+    }
+    let mut line = shown_error(alloc, error)?;
+    line.word(about.as_str())?;
+    Ok(Some(line))
+}
+
 /// The code and the text of the error by which this call has failed the VM, and what it is about. There is none if the VM hasn't failed, or
 /// if the error says all that is known.
 pub fn explained(
@@ -169,13 +187,8 @@ pub fn explained(
     moment: &Moment,
     call: Call,
 ) -> Result<Option<Line>, AllocError> {
-    let Some(error) = &vm.machine.failure else {
-        return Ok(None);
-    };
-    let mut line = shown_error(alloc, error)?;
-    if explain_call(vm, moment, call, error, &mut line)? {
-        Ok(Some(line))
-    } else {
-        Ok(None)
+    match &vm.machine.failure {
+        Some(error) => explain_failure(alloc, vm, moment, call, error),
+        None => Ok(None),
     }
 }
