@@ -146,7 +146,7 @@ fn content_type_of(alloc: Global, given: &MayLend) -> Result<ContentType, Status
     }
 }
 
-/// Puts a VM with these options into the session in the place of the last, for the version that the content type names.
+/// Puts a VM with these options into the session instead of the last, for the version that the content type names.
 #[tactic(auto, using(crate::proofs::Refusing::misfit, crate::proofs::Outcomes::is_kept, crate::proofs::Outcomes::is_made))]
 pub fn make_vm(alloc: Global, vm: &mut Vm, given: MayLend, options: &GivenOptions) -> Replied
     ensures { MakesAsGiven alloc given.entry options.now result vm.old.value vm.new.value }

@@ -22,7 +22,7 @@ IsInOrder entries = IsStrictlySortedBy by_bytes (keys_of entries)
 abbrev pub entry_of : List ℕ → List (List ℕ × Option (List ℕ)) → Option (Option (List ℕ))
 entry_of key entries = lookup (is_at (by_bytes key)) entries
 
--- a key gets this entry, in the place of the one that it had
+-- a key gets this entry, instead of the one that it had
 abbrev pub with_entry : List ℕ → Option (List ℕ) → List (List ℕ × Option (List ℕ))
     → List (List ℕ × Option (List ℕ))
 with_entry key value entries = insert_entry by_bytes entries key value

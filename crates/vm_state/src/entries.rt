@@ -41,7 +41,7 @@ impl Entries {
         self.map.get(key)
     }
 
-    /// A key gets this entry, in the place of the one that it had.
+    /// A key gets this entry, instead of the one that it had.
     pub fn put(&mut self, key: StateKey, value: Option<Bytes>) -> Result<(), AllocError>
         ensures ok { OnOk result (self.new ≡ with_entry key value self.old) }
         ensures err { OnErr result (self.new ≡ self.old) }
