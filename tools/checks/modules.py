@@ -5,17 +5,12 @@ from __future__ import annotations
 import re
 from pathlib import Path
 
+from tools.survey.tree import crates_of
+
 from .clauses import bare, defined
 
 # Modules that are made for a function, beside its proofs.
 GENERATED = {"Goals", "Given", "Code", "Statement", "TheSendSync"}
-
-
-def libraries(path: Path) -> dict[str, set[str]]:
-    """Returns the libraries that each line of crates.txt names; none if there is no such file."""
-    lines = path.read_text(encoding="utf-8").splitlines() if path.is_file() else []
-    rows = (it.partition("#")[0].partition(":") for it in lines)
-    return {left.split()[0]: set(right.split()) for left, _, right in rows if left.strip()}
 
 
 class Modules:
@@ -28,12 +23,14 @@ class Modules:
         self.passes: dict[str, dict[str, str]] = {}
         self.lacking: dict[tuple[str, str | None], str | None] = {}
         self.texts: dict[Path, tuple[str, set[str]]] = {}
-        self.libraries = libraries(top / "crates.txt")
+        lines = top / "crates.txt"
+        crates = crates_of(lines.read_text(encoding="utf-8")) if lines.is_file() else {}
+        self.libraries = {name: it.below for name, it in crates.items()}
 
     def unlisted(self, crate: str, module: str) -> str | None:
         """Says that a crate names a module of a library that its line of crates.txt lacks, if that is so."""
         library = module.split(".")[1]
-        if library == crate or library not in self.crates or library in self.libraries.get(crate, {library}):
+        if library == crate or library not in self.crates or library in self.libraries.get(crate, (library,)):
             return None
         return f"{crate} names {library}, which its line of crates.txt lacks"
 
