@@ -76,6 +76,7 @@ export class Attempt {
   readonly #vm: VM;
   readonly #executing = new Set<Handle>();
   readonly #executed: [Handle, Executed][] = [];
+  #hasDropped = false; // a run for which the core has asked didn't begin
   #waiting: Frame[] = []; // of the output, that isn't stored yet
   #isPoked = false;
   #isStopped = false;
@@ -281,7 +282,7 @@ export class Attempt {
       if (it.kind === 'anyCompleted') return 'awake';
       if (it.kind === 'cancelSignalReceived') return 'cancelled';
       if (it.kind === 'executeRun') this.#begin(it.handle, context, true);
-      if (this.host.drains && this.#executing.size === 0 && it.kind === 'executeRun') throw new Released();
+      if (this.#hasDropped && this.#executing.size === 0) throw new Released();
       if (this.#isLate()) {
         this.#fails(new AttemptTimedOut(`the attempt took longer than its attemptTimeout of ${this.#most} ms`));
         return 'over';
@@ -291,9 +292,12 @@ export class Attempt {
   }
 
   /** Begins to execute a run for which the core has asked, and the others that the handler awaits: each is asked for alone, since to ask for the next one of
-   * a whole tree takes a look at all of it. */
+   * a whole tree takes a look at all of it. The core doesn't ask for a run again, so the attempt has to end if the run may not begin. */
   #begin(handle: Handle, context: Context, others: boolean): void {
-    if (this.host.drains) return;
+    if (this.host.drains) {
+      this.#hasDropped = true;
+      return;
+    }
     const action = context.actions.get(handle);
     if (action === undefined) throw new Error(`the core asks for the run ${handle}, which isn't there`);
     context.asked.delete(handle);

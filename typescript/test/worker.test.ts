@@ -5,11 +5,13 @@ import { test } from 'node:test';
 import { Cancelled, Unsuitable, Worker, service } from '@palqytun/sdk';
 import type { ServiceContext } from '@palqytun/sdk';
 import { Client as Connection } from 'pg';
-import { LONG, URL, empty, stage, until } from './cluster';
+import { LONG, URL, asked, empty, stage, until } from './cluster';
 import { configOf } from '../database';
 
 let executed = 0;
 let begun = 0;
+const started: string[] = []; // runs of `branches`, and those that end
+const free = new Set<string>();
 
 const work = service('Grace', {
   slow: async (ctx: ServiceContext, milliseconds: number): Promise<string> => {
@@ -20,6 +22,15 @@ const work = service('Grace', {
       return 'slow';
     });
     return `${first}, ${await ctx.run('after', () => 'after')}`;
+  },
+  branches: async (ctx: ServiceContext, _: null): Promise<string[]> => {
+    const held = (what: string) => async (): Promise<string> => {
+      started.push(what);
+      await until(() => free.has(what));
+      return what;
+    };
+    const two = async (): Promise<string> => `${await ctx.run('first', held('first'))}, ${await ctx.run('third', held('third'))}`;
+    return Promise.all([two(), ctx.run('second', held('second'))]);
   },
   undoes: async (ctx: ServiceContext, _: null): Promise<unknown> => {
     const steps: string[] = [];
@@ -66,6 +77,24 @@ test('runs end within the grace and are executed once, and another worker goes o
   try {
     assert.equal(await again.client.sent<string>(sent.id).result(LONG), 'slow, after');
     assert.equal(executed, 1);
+  } finally {
+    await again.end();
+  }
+});
+
+test('a run that may not begin, beside one that is executed', { timeout: LONG }, async () => {
+  const on = await stage([work], { grace: LONG });
+  const sent = await on.client.send(work.branches, null);
+  await until(() => started.length === 2);
+  const ended = on.end();
+  free.add('first');
+  await until(async () => (await asked('SELECT 1 FROM journal WHERE invocation=$1 AND completes IS NOT NULL', sent.id)).length === 1);
+  free.add('second').add('third');
+  await ended;
+  const again = await stage([work]);
+  try {
+    assert.deepEqual(await again.client.sent<string[]>(sent.id).result(LONG), ['first, third', 'second']);
+    assert.deepEqual(started.sort(), ['first', 'second', 'third']);
   } finally {
     await again.end();
   }

@@ -21,6 +21,7 @@ from support import Runtime
 service = Service("S")
 begun: list = []
 logged: list = []
+free: dict = {}  # an event for each run of `branches`, which ends once it is set
 hung = threading.Event()
 HELD = "the event loop is held"
 
@@ -41,6 +42,21 @@ async def slow(ctx: Context, seconds: float) -> list:
 
     first = await gather(ctx.run("plain", plain, "plain"), ctx.run("async", alike, "async"))
     return [*first, await ctx.run("next", alike, "next"), await ctx.run("last", alike, "last")]
+
+
+@service.handler()
+async def branches(ctx: Context, _: None) -> list:
+    """Two runs side by side, and a third one after the first."""
+
+    async def held(what: str) -> str:
+        begun.append(what)
+        await free[what].wait()
+        return what
+
+    async def two() -> list:
+        return [await ctx.run("first", held, "first"), await ctx.run("third", held, "third")]
+
+    return await gather(ctx.spawn(two()), ctx.run("second", held, "second"))
 
 
 @service.handler()
@@ -86,6 +102,26 @@ class Stopping(support.OnADatabase):
             async with Runtime(app, self.url) as runtime:
                 assert await runtime.result(id) == ["plain", "async", "next", "last"]
             assert sorted(begun) == ["async", "last", "next", "plain"], begun
+
+        asyncio.run(go())
+
+    def test_a_run_that_may_not_begin_beside_one_that_is_executed(self):
+        async def go():
+            free.update({it: asyncio.Event() for it in ("first", "second", "third")})
+            async with Runtime(app, self.url, grace=support.LONG) as runtime:
+                id, live = await runtime.send("S/branches"), runtime.engine.live
+                while len(begun) < 2:
+                    await asyncio.sleep(0.01)
+                runtime.engine.stop()
+                free["first"].set()
+                await runtime.until_rows([(1,)], "SELECT COUNT(*) FROM journal WHERE invocation=? AND completes IS NOT NULL", id)
+                while not live[id].bell.is_awaited:
+                    await asyncio.sleep(0.01)
+                free["second"].set()
+            free["third"].set()
+            async with Runtime(app, self.url) as runtime:
+                assert await runtime.result(id) == [["first", "third"], "second"]
+            assert sorted(begun) == ["first", "second", "third"], begun
 
         asyncio.run(go())
 

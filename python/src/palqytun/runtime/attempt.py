@@ -317,18 +317,20 @@ class Attempt:
             if isinstance(answer, core.ExecuteRun):
                 self._begin(answer.handle, context)
                 await self._begin_others(context)
-            if self.worker.drains and not self._executing and (self._has_dropped or isinstance(answer, core.ExecuteRun)):
+            if self._has_dropped and self.worker.drains and not self._executing:
                 raise Released()
             await self._progress(context)
             if asked > _LONG:  # a wide tree is asked again after as long a time, so that what comes meanwhile is asked for at once
                 await asyncio.sleep(asked)
 
     def _begin(self, handle: int, context: Context) -> None:
-        """Begins to execute a run, for which the core has asked."""
-        if not self.worker.drains:
-            context.asked.discard(handle)
-            task = self._executing[handle] = asyncio.create_task(self._execute(handle, context.actions[handle]))
-            task.add_done_callback(lambda _: self._has_executed(handle))
+        """Begins to execute a run, for which the core has asked. It doesn't ask for this run again, so the attempt has to end if the run may not begin."""
+        if self.worker.drains:
+            self._has_dropped = True
+            return
+        context.asked.discard(handle)
+        task = self._executing[handle] = asyncio.create_task(self._execute(handle, context.actions[handle]))
+        task.add_done_callback(lambda _: self._has_executed(handle))
 
     async def _begin_others(self, context: Context) -> None:
         """Begins the other runs that the handler awaits. Each one is asked for alone: to ask for the next one of a whole tree takes a look at
