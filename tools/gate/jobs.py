@@ -14,6 +14,7 @@ from pathlib import Path
 from typing import Protocol
 
 from .counts import Counts, of_last_line
+from .environment import with_priority
 
 LIMIT = 5400  # seconds that a job may take, if it says nothing else: some fifteen times what the longest takes on an idle host
 POLL = 0.05  # seconds between two looks at a process
@@ -34,6 +35,7 @@ class Job:
     folder: str = "."
     env: Mapping[str, str] = field(default_factory=dict)
     limit: int = LIMIT
+    nice: int = 0  # by how much it leaves the processors to others
 
     @property
     def part(self) -> str:
@@ -183,7 +185,7 @@ class Runner:
             return 1, 0
         try:
             process = subprocess.Popen(
-                job.words,
+                with_priority(job.nice, job.words) if job.nice else job.words,
                 cwd=job.folder,
                 env=env,
                 stdin=subprocess.DEVNULL,
