@@ -31,7 +31,6 @@ HOURS = 6 * 3600  # that rt ci may take
 SMALL = 1_500_000  # kilobytes for a job that proves nothing
 LOOK = 2  # seconds between two looks at the processes
 BESIDE_CHAIN = 5  # the priority of what is proved beside the longest chain
-BESIDE_TESTS = 2  # of all proofs beside ./test: its four jobs leave one check more than half a processor by this, and a third by 5
 
 ABOUT = """Proves every crate except those of tests and the bench, and has the prover refuse the wrong bodies of the gate (rt ci, in a folder of its own).
 Then each program runs once without each of its allocations in turn, and so do the examples in C and Python, over the library built from
@@ -79,8 +78,6 @@ def every_job(chain: Path | None, after: int | None = None) -> Iterator[Job]:
         yield replace(alone, counts=counts.of_status, env={"RT_JOBS": ""})
         words = once_ended(after, with_priority(BESIDE_CHAIN, proofs.words))
         proofs = replace(proofs, words=words, cores=0, env={"RT_JOBS": str(beside_chain())})
-    elif after is not None:
-        proofs = replace(proofs, words=with_priority(BESIDE_TESTS, proofs.words))
     yield proofs
     library = script("library", str(TOP / "tools/static-library"), "ffi", str(logs / f"{PROOFS}.log"))
     yield replace(library, counts=counts.of_status, cores=0, limit=HOURS, folder=str(room))
@@ -162,7 +159,7 @@ def arguments(words: list[str]) -> argparse.Namespace:
     parser.add_argument("--no-skips", action="store_true", help="a skip is a failure")
     many = f"how many crates are proved at a time, and then how many jobs run ({lanes()} and {cores(SMALL)})"
     parser.add_argument("--jobs", type=int, metavar="N", help=many)
-    parser.add_argument("--after", type=int, metavar="PID", help="until this process has ended leave it processors: prove the longest chain alone, or all below it in priority")
+    parser.add_argument("--after", type=int, metavar="PID", help="until this process has ended prove the longest chain alone, if two runs prove beside each other")
     options = parser.parse_args(words)
     if options.jobs is not None and options.jobs < 1:
         parser.error("--jobs wants a number above 0")
@@ -200,14 +197,15 @@ def run(options: argparse.Namespace) -> int:
     crates = read_crates(TOP, [it.name for it in TOP.glob("crates/*") if has_tests(it)])
     crates = {name: crates[name] for name in tree.promising(crates)}
     tree.make(TOP, tree.place(), crates)
-    chain = chain_tree(crates, is_set=bool(options.jobs or named_lanes()))
+    is_set = bool(options.jobs or named_lanes())
+    chain = chain_tree(crates, is_set)
     proofs = Proofs(crates, {name: it for name, it in times.items() if name in crates})
     those = list(jobs(of_jobs, chain, options.after))
     at_a_time = options.jobs or lanes()
     how = f"{at_a_time} at a time, those of the longest chain first" if chain else f"{at_a_time} at a time"
     print(f"{len(crates)} crates, {how}; logs: {OUT}/logs", flush=True)
     show = ShowProofs(those, proofs, at_a_time, options.no_skips)
-    env = {**environment(TOP / OUT / "bin"), "RT_JOBS": str(at_a_time)}
+    env = {**environment(TOP / OUT / "bin"), "RT_JOBS": str(at_a_time) if is_set else ""}
     runner = Runner(those, options.jobs or cores(SMALL), Path(OUT, "logs"), show, env)
     try:
         done = runner.run()

@@ -29,12 +29,15 @@ def arguments(words: list[str]) -> argparse.Namespace:
     parser.add_argument("--list", action="store_true", help="name the parts, with what they are for and their usual seconds")
     parser.add_argument("--no-skips", action="store_true", help="a skip is a failure")
     parser.add_argument("--jobs", type=int, default=cores(MEMORY), metavar="N", help="how many run at a time (%(default)s)")
+    parser.add_argument("--nice", type=int, default=0, metavar="N", help="leave the processors to other work by this much, from 0 to 10 (%(default)s)")
     options = parser.parse_args(words)
     names = [it.name for it in PARTS]
     if unknown := [it for it in options.parts if it not in names]:
         parser.error(f"there is no part {unknown[0]}: they are {', '.join(names)}")
     if options.jobs < 1:
         parser.error("--jobs wants a number above 0")
+    if not 0 <= options.nice <= 10:
+        parser.error("--nice wants a number from 0 to 10")
     return options
 
 
@@ -56,7 +59,7 @@ def listed() -> None:
 
 def run(options: argparse.Namespace) -> int:
     """Runs the parts, and returns the status."""
-    jobs, begun, idle = wanted(options.parts), time.monotonic(), idle_seconds()
+    jobs, begun, idle = [replace(it, nice=it.nice + options.nice) for it in wanted(options.parts)], time.monotonic(), idle_seconds()
     print(f"{len(jobs)} jobs on {options.jobs} cores; nothing is proved; logs: {OUT}/logs", flush=True)
     shutil.rmtree(TAKEN, ignore_errors=True)
     show = Show(jobs, options.no_skips)

@@ -1,5 +1,5 @@
 """.ci/run: the gate. It installs what tests need, and then runs ./test and ./prove, each without a skip. The proofs begin beside
-./test, since their first minutes are one crate after another, which leaves cores idle."""
+./test, and before it in priority: the whole waits for them, and their first minutes are one crate after another, which leaves cores idle."""
 
 from __future__ import annotations
 

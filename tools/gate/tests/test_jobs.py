@@ -1,5 +1,6 @@
 """Jobs are run side by side, in order, and what fails isn't lost."""
 
+import os
 import sys
 import tempfile
 import time
@@ -46,6 +47,13 @@ class Running(unittest.TestCase):
         self.assertEqual([done[it].counts for it in ("a/x", "a/y", "b")], [Counts(2), Counts(3, 1, 2), Counts(failed=1)])
         self.assertEqual(total(done, False), Counts(5, 2, 2))
         self.assertEqual(total(done, True), Counts(5, 4))
+
+    def test_a_job_leaves_the_processors_to_others(self) -> None:
+        asks = "import os; print(os.nice(0)); print('1 passed, 0 failed')"
+        jobs = [Job(f"{nice}", (sys.executable, "-c", asks), 1, nice=nice) for nice in (0, 3)]
+        done, _ = self.run_jobs(*jobs)
+        first, second = (int(done[it].log.read_text().split()[0]) for it in ("0", "3"))
+        self.assertEqual((first, second), (os.nice(0), min(os.nice(0) + 3, 19)))
 
     def test_what_needs_a_failure_is_not_run(self) -> None:
         jobs = says("a", "0 passed, 1 failed"), says("b", "1 passed, 0 failed", needs=("a",)), says("c", "1 passed, 0 failed", needs=("b",))

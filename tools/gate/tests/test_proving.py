@@ -8,7 +8,7 @@ from pathlib import Path
 from unittest import mock
 
 from tools.gate import proving, tree
-from tools.gate.environment import TOP, lanes, with_priority
+from tools.gate.environment import TOP, lanes
 from tools.gate.proofs import read_crates
 
 
@@ -31,10 +31,6 @@ class Order(unittest.TestCase):
         for after in (None, os.getpid()):
             (proofs,) = [it for it in proving.every_job(None, after) if it.part == proving.PROOFS]
             self.assertEqual((proofs.name, proofs.after, proofs.env), (proving.PROOFS, (), {}))
-
-    def test_all_is_proved_below_a_process_that_it_comes_after(self) -> None:
-        proofs = [next(it.words for it in proving.every_job(None, after) if it.name == proving.PROOFS) for after in (None, os.getpid())]
-        self.assertEqual(proofs, [("rt", "ci"), with_priority(proving.BESIDE_TESTS, ("rt", "ci"))])
 
     def test_the_library_is_tried_beside_the_proofs_and_before_it_is_moved(self) -> None:
         those = {it.name: it for it in proving.every_job(None)}

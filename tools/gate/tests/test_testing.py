@@ -2,10 +2,12 @@
 
 from __future__ import annotations
 
+import contextlib
+import io
 import unittest
 
 from tools.gate.parts import PARTS, SECONDS, TAKEN, all_jobs
-from tools.gate.testing import wanted
+from tools.gate.testing import arguments, wanted
 
 
 class Wanted(unittest.TestCase):
@@ -34,6 +36,13 @@ class Wanted(unittest.TestCase):
         self.assertTrue(found)
         for shares in found.values():
             self.assertEqual(shares, [f"{it}/{len(shares)}" for it in range(1, len(shares) + 1)])
+
+    def test_how_far_it_stays_behind_other_work(self) -> None:
+        self.assertEqual((arguments([]).nice, arguments(["--nice", "10"]).nice), (0, 10))
+        for it in ("-1", "11"):
+            with self.assertRaises(SystemExit), contextlib.redirect_stderr(io.StringIO()) as said:
+                arguments(["--nice", it])
+            self.assertIn("--nice wants a number from 0 to 10", said.getvalue())
 
     def test_what_a_job_only_comes_after_is_left_out_with_its_part(self) -> None:
         alone = {it.name: it for it in wanted(["tutorial"])}
