@@ -26,7 +26,7 @@ FAMILIES = (
         "Values, their bytes, readers and writers. They know no message and no VM.",
         ("plain", "wire", "program_runs"),
     ),
-    Family("journal", "Messages", "The messages of the protocol, and their frames.", ("journal_own_bytes",), ("journal_*",)),
+    Family("journal", "Messages", "The messages of the protocol, and their frames.", (), ("journal_*",)),
     Family("await", "Awaits", "What came, and the trees of handles that a handler awaits.", ("await_arrivals",), ("await_*",)),
     Family(
         "vm",

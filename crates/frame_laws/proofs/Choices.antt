@@ -2,8 +2,13 @@
 -- are read back, a text begins with the word of its case, says one value at most, and is not empty.
 use Rattle.std.proofs.Common.{◌≡◌, ◌==◌, ℕ, if◌then◌else◌, List, [], get_or, length, ap, sym, refl, subst, ◌∙◌, arith}
 use Rattle.std.specs.Prelude.{codes}
-use Rattle.journal_own_bytes.specs.Bytes.{failure}
-use Rattle.journal_own_bytes.specs.Formats.{behavior_format, failure_same, header_format, id_format, idempotency_id, idempotency_id_same, kind_format, result_format, signal_format, signal_result_format, target_format, value_format, void_or_value_format, workflow_id, workflow_id_same}
+use Rattle.journal_values.specs.Encoding.{failure}
+use Rattle.journal_errors.specs.Parts.{behavior_format}
+use Rattle.journal_values.specs.Parts.{failure_same, header_format, id_format, result_format, value_format}
+use Rattle.journal_calls.specs.Encoding.{idempotency_id, workflow_id}
+use Rattle.journal_calls.specs.Choices.{idempotency_id_same, signal_format, signal_result_format, target_format, workflow_id_same}
+use Rattle.journal_attempt.specs.Futures.{kind_format}
+use Rattle.journal_state.specs.Choices.{void_or_value_format}
 use Rattle.journal_protocol.specs.ErrorBehavior.{ErrorBehavior}
 use Rattle.journal_protocol.specs.ErrorBehavior.TheVariants as behaviors
 use Rattle.journal_protocol.specs.FutureKind.{FutureKind}

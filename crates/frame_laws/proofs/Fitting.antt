@@ -5,8 +5,9 @@ use Rattle.std.specs.Prelude.{codes}
 use Rattle.std.specs.List.{AllByRecursion, flat_map, list_all}
 use Rattle.std.proofs.lemmas.Bool.{true≢false}
 use Rattle.lines.specs.Fields.{texts_named}
-use Rattle.journal_own_bytes.specs.Bytes.{bytes, list, option, u64s}
-use Rattle.journal_own_bytes.specs.Formats.{Format, bytes_format, flag_format, list_format, option_format, pair_format, text_format, u32_format, u64_format}
+use Rattle.wire.specs.Format.{bytes, list, option, u64s}
+use Rattle.wire.specs.Format.{Format}
+use Rattle.wire.specs.Forms.{bytes_format, flag_format, list_format, option_format, pair_format, text_format, u32_format, u64_format}
 use Rattle.frame_values.specs.Notation.{AreFields, Fields, Notation, bytes_notation, field, flag_notation, list_notation, nothing, number, optional, pair, string}
 use Rattle.frame_laws.proofs.Closed.{IsWord, is_word_byte, plain_word}
 use Rattle.frame_laws.proofs.Joined.{bors}

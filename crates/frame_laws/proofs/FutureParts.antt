@@ -13,8 +13,8 @@ use Rattle.lines.specs.Atoms.{in_hex, is_plain, printed_byte, quoted}
 use Rattle.journal_protocol.specs.FutureKind.{FutureKind}
 use Rattle.journal_protocol.specs.FutureKind.TheVariants as kinds
 use Rattle.journal_protocol.specs.FutureNode.{FutureNode}
-use Rattle.journal_own_bytes.specs.Bytes.{bytes, list, u64s}
-use Rattle.journal_own_bytes.specs.Formats.{node_format}
+use Rattle.wire.specs.Format.{bytes, list, u64s}
+use Rattle.journal_attempt.specs.Futures.{node_format}
 use Rattle.frame_values.specs.Choices.{kind_text}
 use Rattle.frame_values.specs.FutureWords.{ends_word, within_after}
 use Rattle.frame_values.specs.Futures.{IsUnbroken, IsWord as IsPart, node_fields}

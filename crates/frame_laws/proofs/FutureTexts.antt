@@ -8,7 +8,7 @@ use Rattle.std.proofs.lemmas.List.{append-nil}
 use Rattle.lines.specs.Pieces.{piece_texts}
 use Rattle.journal_protocol.specs.FutureNode.{FutureNode}
 use Rattle.journal_protocol.specs.Futures.{are_whole}
-use Rattle.journal_own_bytes.specs.Formats.{future, future_format, future_valid}
+use Rattle.journal_attempt.specs.Futures.{future, future_format, future_valid}
 use Rattle.frame_values.specs.Futures.{EndsPart, IsWord as IsPart, SayFutures, SayParts, SayWords, SaysFuture, a_blank, a_list, a_word, ends_text, future as a_future, future_notation, future_text, left_then, more_futures, no_part, node_fields, node_head_text, nodes_text, one_future, some_futures}
 use Rattle.frame_laws.proofs.Bracketed.{joined, joined_closed, put_first}
 use Rattle.frame_laws.proofs.Closed.{IsClosed, IsWord, closed_append, closed_byte, in_round, in_square, plain_word}

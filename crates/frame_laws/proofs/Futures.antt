@@ -1,7 +1,7 @@
 -- Futures as they stand in a message and on a line.
 use Rattle.std.proofs.Common.{List, refl}
 use Rattle.journal_protocol.specs.FutureNode.{FutureNode}
-use Rattle.journal_own_bytes.specs.Formats.{future_format}
+use Rattle.journal_attempt.specs.Futures.{future_format}
 use Rattle.frame_values.specs.Futures.{future_notation}
 use Rattle.frame_laws.proofs.Fitting.{Item, never_left_out}
 use Rattle.frame_laws.proofs.FutureTexts.{future_reads}

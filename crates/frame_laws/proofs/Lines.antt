@@ -10,8 +10,8 @@ use Rattle.std.proofs.lemmas.List.{append-nil}
 use Rattle.lines.specs.Atoms.{IsAtom, hexed, in_hex}
 use Rattle.lines.specs.Pieces.{AreWords}
 use Rattle.lines.proofs.Spelling.{digits_read}
-use Rattle.journal_own_bytes.specs.Formats.{IsValid, body}
-use Rattle.journal_own_bytes.proofs.Messages.{message_is}
+use Rattle.journal_messages.specs.Message.{IsValid, body}
+use Rattle.journal_messages.proofs.Reading.{message_is}
 use Rattle.journal_protocol.specs.Bodies.{message_in}
 use Rattle.journal_protocol.specs.Frames.{encoding, frame, numbered_frame, type_of}
 use Rattle.journal_protocol.specs.Types.{type_number}

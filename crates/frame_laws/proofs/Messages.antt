@@ -1,8 +1,13 @@
 -- The fields of a message as they are printed are read back.
 use Rattle.std.proofs.Common.{◌++◌, ap, refl, subst, ◌∙◌, append_assoc}
 use Rattle.std.specs.List.{AllByRecursion}
-use Rattle.journal_own_bytes.specs.Bytes.{u32s, u64s}
-use Rattle.journal_own_bytes.specs.Formats.{IsValid, awaiting_on_same, body, call_request_same, call_same, clear_all_state_same, clear_state_same, complete_awakeable_same, complete_promise_same, error_same, get_eager_state_keys_same, get_eager_state_same, get_lazy_state_keys_same, get_lazy_state_same, get_state_ephemeral_command_same, get_state_ephemeral_notification_same, input_same, invocation_same, notification_same, one_way_call_same, output_same, promise_same, propose_run_completion_ack_same, propose_run_completion_same, run_same, send_signal_same, set_state_same, sleep_same, start_same, suspension_same}
+use Rattle.wire.specs.Format.{u32s, u64s}
+use Rattle.journal_messages.specs.Message.{IsValid, body}
+use Rattle.journal_attempt.specs.Bodies.{awaiting_on_same, input_same, output_same, propose_run_completion_ack_same, propose_run_completion_same, run_same, sleep_same, start_same, suspension_same}
+use Rattle.journal_calls.specs.Bodies.{call_request_same, call_same, complete_awakeable_same, complete_promise_same, invocation_same, one_way_call_same, promise_same, send_signal_same}
+use Rattle.journal_state.specs.Bodies.{clear_all_state_same, clear_state_same, get_eager_state_keys_same, get_eager_state_same, get_lazy_state_keys_same, get_lazy_state_same, get_state_ephemeral_command_same, get_state_ephemeral_notification_same, set_state_same}
+use Rattle.journal_errors.specs.Bodies.{error_same}
+use Rattle.journal_values.specs.Bodies.{notification_same}
 use Rattle.journal_protocol.specs.Message.{Message}
 use Rattle.journal_protocol.specs.Message.TheVariants as message
 use Rattle.frame_lines.specs.Messages.{AreFieldsOf, fields_of}

@@ -1,7 +1,7 @@
 // The names that others read: versions, types of messages, faults and errors; and small values, copied and read.
 use crate::frame_rows::expect;
 use bytes::Bytes;
-use journal_own_bytes::whole;
+use wire::whole;
 use journal_protocol::{Error, MessageType, NamedFault, Said, Version};
 use plain::{Fault, Items, Text, copy_of, is_same};
 use std::str::FromStr;

@@ -4,7 +4,7 @@ use crate::faults::says;
 use crate::frame_rows::expect;
 use crate::reading::{encoded, first_frame, sent_in};
 use bytes::Bytes;
-use journal_own_bytes::whole;
+use wire::whole;
 use journal_protocol::{
     Decoder, Error, Future, FutureKind, FutureNode, Message, RawMessage, ValueOrFailure, header_eq,
     messages_of,

@@ -13,18 +13,18 @@ use Rattle.journal_protocol.specs.NotificationId.TheVariants.{CompletionId}
 use Rattle.journal_protocol.specs.NotificationResult.TheVariants as came
 use Rattle.journal_protocol.specs.Start.{Start}
 use Rattle.journal_protocol.specs.Version.TheVariants.{V7}
-use Rattle.journal_own_bytes.specs.Bytes.{input as input_body, sleep_body, start_body}
-use Rattle.journal_own_bytes.specs.Bytes.{notification}
-use Rattle.journal_own_bytes.specs.Bytes.{IsWhole}
-use Rattle.journal_own_bytes.specs.Bytes.{bytes, flag, list, option, read_byte, read_bytes, read_pair, read_text, read_u16, read_u32, read_u64, u16s, u32s, u64s}
+use Rattle.journal_attempt.specs.Encoding.{input as input_body, sleep_body, start_body}
+use Rattle.journal_values.specs.Encoding.{notification}
+use Rattle.journal_messages.specs.Message.{IsWhole}
+use Rattle.wire.specs.Format.{bytes, flag, list, option, read_byte, read_bytes, read_pair, read_text, read_u16, read_u32, read_u64, u16s, u32s, u64s}
 use Rattle.vm_types.specs.declared.steps.Step.TheVariants as step
 use Rattle.vm_types.specs.Options.{default_options}
-use Rattle.journal_own_bytes.specs.Bytes.{input_format}
-use Rattle.journal_own_bytes.specs.Bytes.{header_equal}
-use Rattle.journal_own_bytes.specs.Bytes.{read_value}
-use Rattle.journal_own_bytes.specs.Bytes.{body_as, input_in, message_in}
+use Rattle.journal_attempt.specs.Bodies.{input_format}
+use Rattle.journal_messages.specs.HeaderEqual.{header_equal}
+use Rattle.journal_values.specs.Parts.{read_value}
+use Rattle.journal_messages.specs.Reading.{body_as, input_in, message_in}
 use Rattle.std.specs.Str.{chars, is_utf8}
-use Rattle.journal_own_bytes.proofs.Facts.{all_read}
+use Rattle.wire.proofs.Read.{all_read}
 use Rattle.std.proofs.lemmas.Option.{same_Some}
 use Rattle.vm_model.specs.Calls.{Meaning, Setup, call_of}
 use Rattle.vm_parts.specs.Deliveries.{same_id}

@@ -14,15 +14,15 @@ use Rattle.journal_protocol.specs.NotificationResult.TheVariants as came
 use Rattle.journal_protocol.specs.ValueOrFailure.TheVariants as given
 use Rattle.journal_protocol.specs.VoidOrValue.TheVariants as stands
 use Rattle.journal_protocol.specs.Version.TheVariants.{V7}
-use Rattle.journal_own_bytes.specs.Bytes.{read_void_or_value}
-use Rattle.journal_own_bytes.specs.Bytes.{header_equal}
-use Rattle.journal_own_bytes.specs.Bytes.{body_as, message_in}
-use Rattle.journal_own_bytes.specs.Bytes.{clear_state, get_eager_state}
-use Rattle.journal_own_bytes.specs.Bytes.{read_signal, read_signal_result}
-use Rattle.journal_own_bytes.specs.Bytes.{send_signal}
-use Rattle.journal_own_bytes.specs.Bytes.{failure}
-use Rattle.journal_own_bytes.specs.Bytes.{output_body, sleep_body}
-use Rattle.journal_own_bytes.specs.Bytes.{read_value}
+use Rattle.journal_state.specs.Choices.{read_void_or_value}
+use Rattle.journal_messages.specs.HeaderEqual.{header_equal}
+use Rattle.journal_messages.specs.Reading.{body_as, message_in}
+use Rattle.journal_state.specs.Encoding.{clear_state, get_eager_state}
+use Rattle.journal_calls.specs.Choices.{read_signal, read_signal_result}
+use Rattle.journal_calls.specs.Encoding.{send_signal}
+use Rattle.journal_values.specs.Encoding.{failure}
+use Rattle.journal_attempt.specs.Encoding.{output_body, sleep_body}
+use Rattle.journal_values.specs.Parts.{read_value}
 use Rattle.vm_types.specs.declared.steps.Answer.{Answer}
 use Rattle.vm_types.specs.declared.steps.Answer.TheVariants as answer
 use Rattle.vm_types.specs.declared.steps.Step.TheVariants as step
@@ -35,7 +35,7 @@ use Rattle.vm_types.specs.Options.{default_options}
 use Rattle.vm_state.specs.TrackedCalls.{unresolved_call}
 use Rattle.vm_asks.specs.Asks.{cancel_invocation_command}
 use Rattle.vm_types.specs.CommandTypes.{message_type}
-use Rattle.journal_own_bytes.specs.Bytes.{bytes, list, option, read_byte, read_bytes, read_flag, read_items, read_list, read_option, read_pair, read_text, read_u16, read_u32, read_u64, u16s, u32s, u64s}
+use Rattle.wire.specs.Format.{bytes, list, option, read_byte, read_bytes, read_flag, read_items, read_list, read_option, read_pair, read_text, read_u16, read_u32, read_u64, u16s, u32s, u64s}
 use Rattle.await_trees.specs.Outcomes.{awake, is_done}
 use Rattle.await_trees.proofs.TreeOf.{tree_of-Single}
 use Rattle.vm_model.specs.Calls.Move.{Ends}

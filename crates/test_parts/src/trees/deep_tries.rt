@@ -4,7 +4,7 @@ use crate::trees::rows::{arrive, map, mapped};
 use await_trees::UnresolvedFuture;
 use await_tries::{Residue, Resolution, future_of, list_handles, try_future};
 use bytes::Bytes;
-use journal_own_bytes::Wire;
+use wire::Wire;
 use journal_protocol::{Future, FutureKind, SignalDelivery};
 use plain::Fault;
 use std::alloc::{AllocError, Global};
