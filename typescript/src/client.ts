@@ -4,7 +4,7 @@ import { randomBytes } from 'node:crypto';
 import { frames } from 'palqytun';
 import { CHANNEL } from './database';
 import type { Ends, Place, Statements, Store } from './tables';
-import { deliver, newest } from './delivery';
+import { deliver, newest, send } from './delivery';
 import { BadValue, TerminalError } from './errors';
 import { CANCEL, VOID, awakeableOf, failure, failureIn, valueIn } from './frames';
 import { create } from './invocations';
@@ -52,12 +52,12 @@ export class Sent<O> {
 
   /** Cancels it: what it awaits throws `Cancelled`. */
   cancel(): Promise<void> {
-    return this.client.deliver(this.id, CANCEL());
+    return this.client.signal(this.id, CANCEL());
   }
 
   /** Sends it a signal. */
   signal(name: string, value: unknown = null): Promise<void> {
-    return this.client.deliver(this.id, frames.namedSignal(name, this.client.resultOf(value)));
+    return this.client.signal(this.id, frames.namedSignal(name, this.client.resultOf(value)));
   }
 }
 
@@ -127,7 +127,7 @@ export class Client {
   async resolveAwakeable(id: string, value: unknown = null): Promise<void> {
     const found = awakeableOf(id);
     if (found === undefined) throw new TerminalError(`${id.slice(0, 200)} is no awakeable`, 400);
-    await this.deliver(found.invocation, frames.signal(found.signal, this.resultOf(value)));
+    await this.db.transact((to) => deliver(to, found.invocation, frames.signal(found.signal, this.resultOf(value))));
   }
 
   /** A value, or a failure, as a frame. @internal */
@@ -138,8 +138,8 @@ export class Client {
   }
 
   /** @internal */
-  async deliver(id: string, frame: Uint8Array): Promise<void> {
-    await this.db.transact(async (to) => deliver(to, await newest(to, id), frame));
+  async signal(id: string, frame: Uint8Array): Promise<void> {
+    await this.db.transact((to) => send(to, id, frame));
   }
 
   /** @internal */

@@ -1,6 +1,6 @@
 /** Limits of time of invocations: one that hasn't ended, or hasn't begun, in its time ends with code 408, whichever program has its handler. */
 
-import { deliver, leaves } from './delivery';
+import { keep, leaves, send } from './delivery';
 import { CANCEL, failure } from './frames';
 import type { Statements } from './tables';
 
@@ -20,6 +20,7 @@ export async function endLate(to: Statements): Promise<void> {
 
 async function end(to: Statements, [id, service, handler, key, exclusive, epoch, status, created]: Row, why: string): Promise<void> {
   const calls = await to.rows('calls', { id });
+  for (const [call] of calls) await keep(to, String(call)); // before its row of `waiters` goes, which it takes over if it goes on
   const result = failure(408, why);
   await to.change('overdue', { id, now: to.now, result, failed: 408, error: `408 ${why}` });
   await leaves(to, { id, service, key: exclusive === 1 ? key : '' }, result);
@@ -27,5 +28,5 @@ async function end(to: Statements, [id, service, handler, key, exclusive, epoch,
   to.ended(id, { service, handler, outcome: 'failed', seconds: to.now - created });
   if (status === 'running') to.stops(id);
   to.say('ready'); // its key or its limit is free
-  for (const [call] of calls) await deliver(to, String(call), CANCEL());
+  for (const [call] of calls) await send(to, String(call), CANCEL());
 }

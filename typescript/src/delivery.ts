@@ -4,7 +4,7 @@ import { frames } from 'palqytun';
 import { isCancel } from './frames';
 import type { Statements } from './tables';
 
-/** Puts a notification into an invocation's inbox, if it has one. */
+/** Puts a notification into an invocation's inbox, if it has one. What is for whichever goes on in its place is sent. */
 export async function deliver(to: Statements, invocation: string, frame: Uint8Array): Promise<boolean> {
   if ((await to.change('deliver', { invocation, frame })) === 0) return false;
   if (isCancel(frame)) await to.change('reach', { id: invocation, now: to.now });
@@ -15,6 +15,17 @@ export async function deliver(to: Statements, invocation: string, frame: Uint8Ar
 /** The invocation that goes on instead of another one, or else that one. */
 export async function newest(to: Statements, invocation: string): Promise<string> {
   return String((await to.rows('newest', { invocation }))[0]?.[0]);
+}
+
+/** Until the commit no invocation goes on in the place of this one. */
+export async function keep(to: Statements, invocation: string): Promise<void> {
+  await to.rows('keep', { invocation });
+}
+
+/** Puts a signal or a cancellation into the inbox of an invocation, or of the one that goes on in its place. */
+export async function send(to: Statements, invocation: string, frame: Uint8Array): Promise<boolean> {
+  await keep(to, invocation);
+  return deliver(to, await newest(to, invocation), frame);
 }
 
 /** One that has ended. */

@@ -1,7 +1,7 @@
 /** What a stored command does, in the transaction that stores it; so it is done once. */
 
 import { frames } from 'palqytun';
-import { deliver, newest } from './delivery';
+import { deliver, newest, send } from './delivery';
 import { TerminalError } from './errors';
 import { Kind, VOID, awakeableOf, failure, invocationId, isAttribute, keys } from './frames';
 import type { Frame } from './frames';
@@ -133,7 +133,7 @@ async function completes(to: Statements, _: Own, it: Message, frame: Uint8Array)
 
 async function signals(to: Statements, _: Own, it: Message, frame: Uint8Array): Promise<Uint8Array[]> {
   const notification = it.kind === 2 ? frames.namedSignal(it.text(1), frame) : frames.signal(it.id, frame);
-  await deliver(to, await newest(to, it.text(0)), notification);
+  await send(to, it.text(0), notification);
   return [];
 }
 

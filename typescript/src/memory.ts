@@ -227,6 +227,11 @@ export class Tables {
     return hasNotEnded || (expires !== null && expires <= now && status === 'ready' && epoch === 0);
   }
 
+  /** What came for one, in its order. */
+  arrived(id: string): Row[] {
+    return inOrder(this.inbox.where((one) => one.invocation === id)).map((one) => [one.seq, one.frame]);
+  }
+
   /** For whom something has come. */
   reached(): Set<string> {
     return new Set(this.inbox.where((it) => it.fresh).map((it) => it.invocation));
@@ -422,7 +427,7 @@ const STATEMENTS: Readonly<Record<Exclude<StatementName, 'now'>, Does>> = {
     const reached = to.reached();
     return rows(to.candidates(it, 'suspended').filter((one) => one.queue === null && reached.has(one.id)).slice(0, it.most).map((one) => candidate(one, one.suspension, one.shielded)));
   },
-  inbox: (to, it) => rows(inOrder(to.inbox.where((one) => one.invocation === it.id)).map((one) => [one.seq, one.frame])),
+  inbox: (to, it) => rows(to.arrived(it.id)),
   seen: (to, it) => {
     for (const one of to.inbox.where(({ seq }) => it.seqs.includes(seq))) to.inbox.put(one.seq, { ...one, fresh: false });
     return changed(it.seqs.length);
@@ -465,6 +470,7 @@ const STATEMENTS: Readonly<Record<Exclude<StatementName, 'now'>, Does>> = {
     if (isOpen) to.inbox.put(seq, { seq, invocation: it.invocation, frame: it.frame, fresh: true });
     return changed(Number(isOpen));
   },
+  keep: nothing,
   newest: (to, it) => rows([[to.newest(it.invocation)]]),
   result: (to, it) => rows(to.invocations.where((one) => one.id === it.invocation).map((one) => [one.result])),
   look: (to, it) => rows(to.invocations.where((one) => one.id === it.invocation).map((one) => [one.status, one.result])),
@@ -478,7 +484,9 @@ const STATEMENTS: Readonly<Record<Exclude<StatementName, 'now'>, Does>> = {
   continued: (to, it) => rows(to.invocations.where((one) => one.id === it.id).map((one) => [
     one.idem, one.chain ?? one.id, one.parent, one.trace, one.queue, one.queue_key, one.priority,
   ])),
+  take: nothing,
   continue: continues,
+  left: (to, it) => rows(to.arrived(it.id)),
   chain: (to, it) => changed(to.set(it.id, () => true, () => ({ chain: it.chain }))),
   fail: (to, { id, entries, status, due, error, retries, failing_since, failures, failed_since, ...it }) =>
     changed(to.set(id, isFenced({ id, entries, status, due, error, retries, failing_since, failures, failed_since, ...it }), () => ({

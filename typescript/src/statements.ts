@@ -206,6 +206,9 @@ export const STATEMENTS = {
   'newest': [
     { text: "SELECT COALESCE((SELECT id FROM invocations WHERE id=$1::text AND continued IS NULL), (SELECT id FROM invocations WHERE chain=COALESCE((SELECT chain FROM invocations WHERE id=$1::text), $1::text) ORDER BY seq DESC LIMIT 1), $1::text)", names: ["invocation"] },
   ],
+  'keep': [
+    { text: "SELECT pg_advisory_xact_lock_shared(7401954, hashtext(COALESCE((SELECT chain FROM invocations WHERE id=$1::text), $1::text)) & 1023)", names: ["invocation"] },
+  ],
   'result': [
     { text: "SELECT result FROM invocations WHERE id=$1::text FOR UPDATE", names: ["invocation"] },
   ],
@@ -237,6 +240,9 @@ export const STATEMENTS = {
     { text: "DELETE FROM promise_waiters WHERE waiter=$1::text", names: ["id"] },
     { text: "DELETE FROM locks WHERE service=$1::text AND key=$2::text AND holder=$3::text", names: ["service", "key", "id"] },
   ],
+  'take': [
+    { text: "SELECT pg_advisory_xact_lock(7401954, hashtext(COALESCE((SELECT chain FROM invocations WHERE id=$1::text), $1::text)) & 1023)", names: ["id"] },
+  ],
   'continued': [
     { text: "SELECT idem, COALESCE(chain, id), parent, trace, queue, queue_key, priority FROM invocations WHERE id=$1::text", names: ["id"] },
   ],
@@ -248,6 +254,9 @@ export const STATEMENTS = {
   ],
   'chain': [
     { text: "UPDATE invocations SET chain=$1::text WHERE id=$2::text", names: ["chain", "id"] },
+  ],
+  'left': [
+    { text: "SELECT seq, frame FROM inbox WHERE invocation=$1::text ORDER BY seq", names: ["id"] },
   ],
   'fail': [
     { text: "UPDATE invocations SET entries=$1::bigint, status=$2::text, due=$3::float8, error=$4::text, stopped=$5::float8, how=$6::text, deaths=0, retries=$7::integer, failing_since=$8::float8, failures=$9::integer, failed_since=$10::float8 WHERE id=$11::text AND epoch=$12::bigint AND entries=$13::bigint AND status='running'", names: ["entries", "status", "due", "error", "now", "how", "retries", "failing_since", "failures", "failed_since", "id", "epoch", "before"] },

@@ -119,6 +119,7 @@ async function fence(to: Statements, claim: Claim): Promise<number> {
 export async function store(to: Statements, claim: Claim, output: Uint8Array): Promise<Outcome> {
   claim.journal.undo(); // an earlier try of this transaction failed
   const written = split(output);
+  if (claim.continues !== undefined && written.some(isEnd)) await to.rows('take', { id: claim.id }); // before the fence, as those who send keep it before
   const before = written.every(isStep) ? claim.journal.entries : await fence(to, claim);
   const stored = claim.journal.store(VM_VERSION, output);
   const arrived: Uint8Array[] = [];
@@ -265,7 +266,7 @@ async function goesOnAs(to: Statements, claim: Claim, before: number, result: Ui
   const [idem, chain, parent, trace, queue, queueKey, priority] = (await to.rows('continued', { id }))[0] as [
     string | null, string, string | null, string | null, string | null, string | null, number,
   ]; // prettier-ignore
-  const left = [...(await unasked(to, id, asked)), ...(await to.rows('inbox', { id })).map(frameOf).filter((it) => isCancel(it) || signalName(it) !== undefined)];
+  const left = [...(await unasked(to, id, asked)), ...(await to.rows('left', { id })).map(frameOf).filter((it) => isCancel(it) || signalName(it) !== undefined)];
   const fenced = { id, epoch: claim.epoch, before, entries: claim.journal.entries, now: to.now };
   const { service, handler, key } = claim;
   await to.change('continue', { ...fenced, chain, next, service, key }); // the row is kept since the store's fence

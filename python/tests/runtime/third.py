@@ -87,6 +87,12 @@ class Store:
         if self.made("deliver", invocation=invocation, frame=frame):
             self.made("tell", ids=[invocation])
 
+    def send(self, invocation: str, frame: bytes) -> None:
+        """Delivers a signal, or a cancellation, to the newest of those that go on one after the other."""
+        self.made("keep", invocation=invocation)
+        [(newest,)] = self.made("newest", invocation=invocation)
+        self.deliver(newest, frame)
+
     def served(self, service: str, handler: str) -> dict[str, Any] | None:
         """What the workers say of a handler."""
         for (said,) in self.made("serves"):
@@ -292,7 +298,7 @@ class Attempt:
                 if (named := awakeable(it.text(0))) is not None:
                     self.worker.deliver(named[0], signal(named[1], frame))
             case 22:
-                self.worker.deliver(it.text(0), named_signal(it.text(1), frame) if it.kind == 2 else signal(it.id, frame))
+                self.worker.send(it.text(0), named_signal(it.text(1), frame) if it.kind == 2 else signal(it.id, frame))
             case 23 | 24 | 25:
                 return self._promise(it, frame, place)
             case 27 | 28:

@@ -10,7 +10,7 @@ import time
 from collections.abc import Awaitable, Callable
 from dataclasses import dataclass, fields
 
-from . import audit, inbox, invocations, journal, restarting
+from . import audit, chains, inbox, invocations, journal, restarting
 from .database import Database
 from .filters import Filter
 from .journal import Result
@@ -129,9 +129,11 @@ async def end_with_calls(db: Database, out: Outcome, id: str, result: Result, ho
     """Ends an invocation from outside, and cancels the calls whose results it waits for; returns how many."""
     sql = "SELECT waiters.invocation FROM waiters JOIN invocations ON invocations.id=waiters.invocation WHERE waiter=? AND parent=?"
     children = [child for child, in await db.rows(sql, (id, id))]
+    for child in children:  # before its row of `waiters` goes, which it takes over if it goes on
+        chains.keep(db, child)
     await end(db, out, id, result, how)
     for child in children:
-        inbox.put(db, out, child, journal.cancellation())
+        await chains.send(db, out, child, journal.cancellation())
     return len(children)
 
 
@@ -200,6 +202,7 @@ def known(name: str) -> Known:
 
 async def one(db: Database, app: App | None, out: Outcome, name: str, id: str, who: str) -> str:
     """Does an act to an invocation, or to the one that goes on in its place."""
+    chains.keep(db, id)
     return await known(name).act(db, app, out, await invocations.newest(db, id), who)
 
 

@@ -3,7 +3,7 @@
 One transaction ends the first and makes the second, with an id that follows from the first one's. The second one takes over the key, the idempotency
 key, those who wait for a result, the signals that came and weren't asked for, and a cancellation that the first one hasn't taken. What is meant for
 the first one's own commands is dropped, as at each end. `chain` is the first of all that go on one after the other; by it an id of any of them leads to
-the newest (`invocations.newest`).
+the newest (`invocations.newest`). The transaction has taken the chain (`chains.take`), so all that is sent stands in the inbox or goes to the new one.
 """
 
 from __future__ import annotations

@@ -13,7 +13,7 @@ from collections.abc import AsyncIterator, Awaitable, Callable, Iterator, Sequen
 from dataclasses import replace
 from typing import TypeVar
 
-from . import acts, announced, inbox, invocations
+from . import acts, announced, chains, invocations
 from .announced import Target
 from .committer import Committer, Stopped
 from .database import Conflict, Database, Lost, connect
@@ -39,14 +39,6 @@ class Unavailable(TerminalError):
 
     def __init__(self, why: str):
         super().__init__(why, 503)
-
-
-async def _delivered(db: Database, out: Outcome, invocation: str, notification: bytes) -> bool:
-    """Puts a notification into an invocation's inbox, or into that of the one that goes on in its place."""
-    if await inbox.deliver(db, out, invocation, notification):
-        return True
-    id = await invocations.newest(db, invocation)
-    return id != invocation and invocations.goes_over(notification) and await inbox.deliver(db, out, id, notification)
 
 
 def _tell(told: Told, result: Result | None = None) -> None:
@@ -189,7 +181,7 @@ class Desk:
     async def notify(self, invocation: str, notification: bytes) -> bool:
         """Sends a signal from outside; returns whether there is an invocation that gets it."""
         out = Outcome()
-        is_there = await self.transact(lambda db: _delivered(db, out, invocation, notification))
+        is_there = await self.transact(lambda db: chains.deliver(db, out, invocation, notification))
         self.tell(out)
         return is_there
 

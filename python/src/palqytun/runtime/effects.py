@@ -14,7 +14,7 @@ from typing import Any
 
 from palqytun.effects import Attach, Begin, Change, Effect, Promise, Read, Send, Wait
 
-from . import announced, inbox, invocations, journal, refused, sealing
+from . import announced, chains, inbox, invocations, journal, refused, sealing
 from .database import Database, Each
 from .invocations import New
 from .journal import Attribute, Result
@@ -134,9 +134,10 @@ class Performer:
             target = it.target.decode()
         except UnicodeDecodeError:
             return  # an awakeable's id that names nobody
-        if not it.is_awakeable:
-            target = await invocations.newest(self.db, target)
-        inbox.put(self.db, self.out, target, it.notification)
+        if it.is_awakeable:
+            inbox.put(self.db, self.out, target, it.notification)
+        else:
+            await chains.send(self.db, self.out, target, it.notification)
 
     async def _promise(self, it: Promise) -> None:
         place = (self.service, self.key, it.name)

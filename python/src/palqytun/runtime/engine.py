@@ -95,7 +95,8 @@ class Engine(Desk):
         """Commits a transaction on a claim's journal, and notifies those whom it touches."""
         assert self._committer is not None
         if reads is None:
-            out = await self._committer.submit(lambda db: operation(db, ()), then=self._took)
+            waits = self._committer.db.is_shared and claim.continues is not None  # for those who send to it
+            out = await self._committer.submit(lambda db: operation(db, ()), is_slow=waits, then=self._took)
         else:
             out = await self._committer.follow(After(reads, operation))
         claim.lease.journal.keep()

@@ -13,7 +13,7 @@ from collections.abc import Collection
 from dataclasses import dataclass, fields
 from typing import Any, Literal, get_args
 
-from . import audit, inbox, journal
+from . import audit, chains, journal
 from .cron import Cron, Every
 from .database import Database
 from .invocations import New, create, newest
@@ -160,7 +160,7 @@ async def _fire(db: Database, app: App, out: Outcome, it: Schedule, was: Stored,
     made = [] if waits else times[:1] if it.overlap == "queue" else times
     left = times[len(made) :] if it.overlap == "queue" else []
     if opened is not None and made:
-        inbox.put(db, out, opened, journal.cancellation())
+        await chains.send(db, out, opened, journal.cancellation())
         audit.record(db, f"the schedule {it.name}", "cancel", invocation=opened)
     last, called = was.last, was.called
     for at in made:

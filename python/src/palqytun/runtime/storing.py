@@ -10,7 +10,7 @@ from typing import Any
 from palqytun.effects import Output
 from palqytun.errors import Code, in_words
 
-from . import continuing, inbox, invocations, journal, notes
+from . import chains, continuing, inbox, invocations, journal, notes
 from .database import Asked, Database, Each
 from .effects import Performer
 from .invocations import Claim
@@ -33,9 +33,9 @@ Writes = Callable[[Database, Sequence[list[Any]]], Awaitable[Outcome]]
 
 def reads(claim: Claim, output: bytes) -> Reads | None:
     """What `store` needs to have read before, if this is all: an output that asks nothing of the runtime but to end or to suspend the attempt. First
-    the invocation's row is kept: so all is there that others have stored for it, and they wait with more."""
+    the invocation's row is kept: so all is there that others have stored for it, and they wait with more. One that goes on takes its chain before."""
     lease, entries = claim.lease, claim.lease.journal.entries
-    if journal.only_ends(output):
+    if claim.continues is None and journal.only_ends(output):
         return lambda db: (fence(db, lease, entries), invocations.waiters_of(lease.invocation))
     if journal.only_suspends(output):
         return lambda db: (fence(db, lease, entries), inbox.peek(lease.invocation))
@@ -61,6 +61,8 @@ async def store(
     stored = growth.store(output, at)
     if found:
         growth.fenced(found[0])
+    elif claim.continues is not None:
+        chains.take(db, claim.invocation)
     performer = Performer(db, app, out, growth, claim.service, claim.key, claim.trace)
     if not found and (isinstance(stored.end, Suspension) or any(map(performer.needs_fence, stored.effects))):
         await growth.fence(db)  # else the first statement that changes something is that of `write`, which fences
