@@ -4,7 +4,7 @@ import { Journal, StatusError, frames } from 'palqytun';
 import { endLate } from './deadlines';
 import { deliver } from './delivery';
 import { storable } from './errors';
-import { VOID, failure, patchesIn, startFrame } from './frames';
+import { CANCEL, VOID, failure, patchesIn, startFrame } from './frames';
 import { traceOf } from './hash';
 import type { Event } from './notes';
 import { Room, again, first, handlersOf, pathOf, queuesOf } from './queueing';
@@ -54,6 +54,11 @@ async function fires(to: Statements, found: Look): Promise<void> {
     found.lags.push(to.now - (due as number));
     await deliver(to, String(invocation), frames.completion(completes as number, VOID()));
   }
+}
+
+/** Cancellations reach those that wait for no inbox, and that came to wait while these were sent. */
+async function reaches(to: Statements): Promise<void> {
+  for (const [id] of await to.rows('unreached', { frame: CANCEL(), now: to.now })) await to.change('reach', { id, now: to.now });
 }
 
 /** What a look looks for beside what is ready: all, timers that are due, and suspended ones for which something came. */
@@ -146,6 +151,7 @@ export async function look(to: Statements, claimer: Claimer, asked: Asked, live:
   const { found } = it;
   const handlers = handlersOf(claimer.services);
   if (asked.isWhole) found.servesMore = await serves(to, claimer.services);
+  if (asked.isWhole) await reaches(to);
   if (asked.isDue) await fires(to, found);
   if (asked.isDue) await endLate(to);
   for (const about of claimer.services.values()) {

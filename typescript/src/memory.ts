@@ -382,9 +382,10 @@ function continues(tables: Tables, it: Given): Made {
   return changed(count);
 }
 
+const waitsForNoInbox = (it: Given) => ({ status, due }: Invocation): boolean => status === 'paused' || (status === 'ready' && due > it.now);
+
 function reach(tables: Tables, it: Given): Made {
-  const holds = ({ status, due }: Invocation): boolean => status === 'paused' || (status === 'ready' && due > it.now);
-  return changed(tables.set(it.id, holds, ({ status }) => ({ status: 'ready', due: it.now, ...(status === 'paused' ? PROGRESS : {}) })));
+  return changed(tables.set(it.id, waitsForNoInbox(it), ({ status }) => ({ status: 'ready', due: it.now, ...(status === 'paused' ? PROGRESS : {}) })));
 }
 
 function promise(tables: Tables, it: Given): Made {
@@ -531,6 +532,10 @@ const STATEMENTS: Readonly<Record<Exclude<StatementName, 'now'>, Does>> = {
   notify: nothing,
   tell: nothing,
   reach,
+  unreached: (to, it) => {
+    const those = new Set(to.inbox.where((one) => one.fresh && Buffer.compare(one.frame, it.frame) === 0).map((one) => one.invocation));
+    return rows(to.invocations.where((one) => those.has(one.id) && waitsForNoInbox(it)(one)).map((one) => [one.id]));
+  },
 };
 
 /** A transaction: the words of its commit, and its statements. */

@@ -276,6 +276,9 @@ export const STATEMENTS = {
   'reach': [
     { text: "UPDATE invocations SET status='ready', due=$1::float8, deaths=CASE status WHEN 'paused' THEN 0 ELSE deaths END, retries=CASE status WHEN 'paused' THEN 0 ELSE retries END, failing_since=CASE status WHEN 'paused' THEN NULL ELSE failing_since END, failures=CASE status WHEN 'paused' THEN 0 ELSE failures END, failed_since=CASE status WHEN 'paused' THEN NULL ELSE failed_since END WHERE id=$2::text AND (status='paused' OR (status='ready' AND due>$1::float8))", names: ["now", "id"] },
   ],
+  'unreached': [
+    { text: "SELECT id FROM invocations WHERE id IN (SELECT invocation FROM inbox WHERE fresh=1 AND frame=$1::bytea) AND (status='paused' OR (status='ready' AND due>$2::float8)) FOR UPDATE SKIP LOCKED", names: ["frame", "now"] },
+  ],
 } as const;
 
 export type StatementName = keyof typeof STATEMENTS;

@@ -1,5 +1,5 @@
 // What is sent to an invocation while it goes on as a new one, by transactions that are committed in each order. Commits of one process are held here, so
-// that the orders are sure.
+// that the orders are sure. And what is for one invocation alone, or came while its attempt stopped.
 
 import assert from 'node:assert/strict';
 import { test } from 'node:test';
@@ -7,7 +7,7 @@ import { Cancelled, service } from '@palqytun/sdk';
 import type { ServiceContext } from '@palqytun/sdk';
 import { frames } from 'palqytun';
 import { Transaction } from '../database';
-import { VOID } from '../frames';
+import { CANCEL, VOID } from '../frames';
 import { LONG, asked, stage, until } from './cluster';
 import type { Stage } from './cluster';
 
@@ -88,6 +88,12 @@ const loops = service('Chains', {
     }
     for (let at = 0; at < n; at++) await ctx.signal('one');
     return n;
+  },
+  signs: async (ctx: ServiceContext, isLast: boolean | null): Promise<string> => {
+    const { id, promise } = ctx.awakeable<string>();
+    ctx.setAttribute('awakeable', id);
+    if (isLast === null) ctx.continueAsNew(true);
+    return promise;
   },
   signals: async (ctx: ServiceContext, id: string): Promise<void> => ctx.sendSignal(id, 'go'),
   cancels: async (ctx: ServiceContext, id: string): Promise<void> => ctx.cancel(id),
@@ -173,6 +179,36 @@ test('it waits for the commit of who has sent before', { timeout: LONG }, async 
     await sending;
     await until(() => hasGoneOn(order.first));
   });
+});
+
+test('an awakeable of the one that went on completes none of the next one', { timeout: LONG }, async () => {
+  const on = await stage([loops]);
+  try {
+    const { id } = await on.client.send(loops.signs, null);
+    await until(async () => (await asked("SELECT 1 FROM invocations WHERE chain=$1 AND id<>$1 AND status='suspended'", id)).length > 0);
+    const ids = 'SELECT id FROM invocations WHERE chain=$1';
+    const [first, second] = (await asked(`SELECT value FROM attributes WHERE invocation IN (${ids}) ORDER BY invocation=$1 DESC`, id)).map(([it]) => String(it));
+    await on.client.resolveAwakeable(first as string, 'first');
+    assert.deepEqual(await asked(`SELECT 1 FROM inbox WHERE invocation IN (${ids})`, id), []);
+    await on.client.resolveAwakeable(second as string, 'second');
+    assert.equal(await on.client.sent(id).result(LONG), 'second');
+  } finally {
+    await on.end();
+  }
+});
+
+test('a cancellation reaches what came to wait for no inbox while it was sent', { timeout: LONG }, async () => {
+  const on = await stage([loops]);
+  try {
+    const [late, paused] = await Promise.all(['second', 'second'].map((it) => on.client.send(loops.waits, it, { delay: 3_600_000 })));
+    await asked("UPDATE invocations SET status='paused' WHERE id=$1", paused?.id);
+    for (const it of [late, paused]) {
+      await asked('INSERT INTO inbox(invocation, frame) VALUES ($1, $2)', it?.id, CANCEL());
+      await assert.rejects(on.client.sent(it?.id ?? '').result(LONG), { code: 409, message: 'cancelled' });
+    }
+  } finally {
+    await on.end();
+  }
 });
 
 test('more goes over than a claim takes at once', { timeout: LONG }, async () => {

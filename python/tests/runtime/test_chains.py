@@ -1,4 +1,5 @@
-"""What is sent to an invocation while it goes on as a new one, by transactions of two connections to a PostgreSQL server that are committed in each order."""
+"""What is sent to an invocation while it goes on as a new one, by transactions of two connections to a PostgreSQL server that are committed in each order;
+and what was sent to one that isn't there any more."""
 
 import asyncio
 import contextlib
@@ -11,6 +12,7 @@ from support import Runtime
 
 from palqytun.effects import Send
 from palqytun.runtime import App, Cancelled, Context, Service, acts, chains, continuing, effects, journal
+from palqytun.runtime.claiming import Claimer
 from palqytun.runtime.committer import Committer
 from palqytun.runtime.database import connect
 from palqytun.runtime.outcome import Outcome
@@ -231,6 +233,24 @@ class Many(support.OnADatabase, unittest.TestCase):
         came = asyncio.run(asyncio.wait_for(go(), support.LONG))
         for name in "ab":
             self.assertEqual([it for it in came if it[0] == name], [f"{name} {at:02d}" for at in range(MANY)])
+
+
+@support.on_each_database
+class Left(support.OnADatabase):
+    def test_what_came_for_one_that_is_not_there_any_more(self):
+        """It is removed by and by: of one that has ended, and of one that is purged. What is for others stays."""
+
+        async def go():
+            async with Runtime(app, self.url) as runtime:
+                ids = [await runtime.send("Loops/waits", "second", due=4e9) for _ in range(3)]
+                for id in ids:
+                    self.assertTrue(await runtime.engine.notify(id, SIGNAL))
+                await runtime.engine.transact(lambda db: db.change("UPDATE invocations SET status='done' WHERE id=?", (ids[0],)))
+                await runtime.engine.transact(lambda db: db.change("DELETE FROM invocations WHERE id=?", (ids[1],)))
+                await runtime.engine.transact(Claimer("another", app, support.LEASE).sweep)
+                self.assertEqual(await runtime.rows("SELECT invocation FROM inbox"), [(ids[2],)])
+
+        asyncio.run(go())
 
 
 if __name__ == "__main__":

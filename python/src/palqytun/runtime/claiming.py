@@ -117,7 +117,7 @@ class Claimer:
 
     async def sweep(self, db: Database) -> None:
         """Removes what was delivered while its target ended elsewhere. The inbox is looked through, and no invocation that isn't in it."""
-        await db.change("DELETE FROM inbox WHERE fresh=1 AND (SELECT status FROM invocations WHERE id=inbox.invocation)='done'")
+        await db.change("DELETE FROM inbox WHERE fresh=1 AND COALESCE((SELECT status FROM invocations WHERE id=inbox.invocation), 'done')='done'")
 
     async def serve(self, db: Database) -> Outcome:
         """Some of what waits for a worker that serves it go on by this one; `has_more` says whether there may be others."""
