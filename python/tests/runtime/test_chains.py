@@ -13,7 +13,7 @@ from support import Runtime
 from palqytun.effects import Send
 from palqytun.runtime import App, Cancelled, Context, Service, acts, chains, continuing, effects, journal
 from palqytun.runtime.claiming import Claimer
-from palqytun.runtime.committer import Committer
+from palqytun.runtime.committer import After, Committer
 from palqytun.runtime.database import connect
 from palqytun.runtime.outcome import Outcome
 
@@ -71,7 +71,8 @@ app = App(loops)
 
 async def signals(db, out, id):
     """As the client's and the page's."""
-    assert await chains.deliver(db, out, id, SIGNAL)
+    it = chains.Delivery(out, id, SIGNAL)
+    assert await it.then(db, await db.several(it.reads(db)))
 
 
 async def sends(db, out, id):
@@ -221,8 +222,8 @@ class Many(support.OnADatabase, unittest.TestCase):
 
                 async def sent(to, name):
                     for at in range(MANY):
-                        frame = journal.named_signal("go", journal.value(f'"{name} {at:02d}"'.encode()))
-                        self.assertTrue(await to.submit(lambda db: chains.deliver(db, Outcome(), first, frame)))
+                        it = chains.Delivery(Outcome(), first, journal.named_signal("go", journal.value(f'"{name} {at:02d}"'.encode())))
+                        self.assertTrue(await to.follow(After(it.reads, it.then)))
 
                 await asyncio.gather(*(sent(to, name) for to, name in zip(others, "ab")))
                 came = await runtime.result(first)

@@ -10,22 +10,28 @@ it keeps that one's row.
 
 from __future__ import annotations
 
+from collections.abc import Sequence
+from dataclasses import dataclass
+from typing import Any
+
 from . import inbox
-from .database import Database
-from .invocations import goes_over, newest
+from .database import Asked, Database, Reading
+from .invocations import NEWEST, goes_over, newest
 from .outcome import Outcome
 
 _CHAINS = 7_401_954  # the first number of the locks; the second one is a chain's
 _MANY = 1024  # second numbers: so a transaction has no more locks than these, however many it sends to
 _CHAIN = f"{_CHAINS}, hashtext(COALESCE((SELECT chain FROM invocations WHERE id=?), ?)) & {_MANY - 1}"
-_KEPT = f"SELECT pg_advisory_xact_lock_shared({_CHAIN})"
+_KEPT = Reading(f"SELECT pg_advisory_xact_lock_shared({_CHAIN})", "text", "text")
 _TAKEN = f"SELECT pg_advisory_xact_lock({_CHAIN})"
+_OWN = Reading("SELECT id FROM invocations WHERE id=? AND status<>'done'", "text")
+_LAST = Reading(f"SELECT id FROM invocations WHERE id=({NEWEST}) AND status<>'done'", *("text",) * 4)
 
 
 def keep(db: Database, id: str) -> None:
     """Until the commit no invocation goes on in the place of this one. A file has one writer, so there is nothing to keep."""
     if db.is_shared:
-        db.put(_KEPT, (id, id))
+        db.put(_KEPT.one, (id, id))
 
 
 def take(db: Database, id: str) -> None:
@@ -40,12 +46,23 @@ async def send(db: Database, out: Outcome, id: str, notification: bytes) -> None
     inbox.put(db, out, await newest(db, id), notification)
 
 
-async def deliver(db: Database, out: Outcome, id: str, notification: bytes) -> bool:
-    """Puts a notification into the inbox of this invocation, or of the one that goes on in its place if it is for that one too; returns whether one got it."""
-    if not goes_over(notification):
-        return await inbox.deliver(db, out, id, notification)
-    keep(db, id)
-    if await inbox.deliver(db, out, id, notification):
-        return True
-    last = await newest(db, id)
-    return last != id and await inbox.deliver(db, out, last, notification)
+@dataclass(frozen=True)
+class Delivery:
+    """A notification from outside, as an operation that begins by some reads. It is for this invocation, or for the one that goes on in its place."""
+
+    out: Outcome
+    id: str
+    notification: bytes
+
+    def reads(self, db: Database) -> list[Asked]:
+        """Reads who gets it, once the chain is kept."""
+        if not goes_over(self.notification):
+            return [(_OWN, (self.id,))]
+        kept: list[Asked] = [(_KEPT, (self.id, self.id))] if db.is_shared else []
+        return [*kept, (_LAST, (self.id,) * 4)]
+
+    async def then(self, db: Database, found: Sequence[list[Any]]) -> bool:
+        """Puts it into the inbox; returns whether there is one."""
+        for (id,) in found[-1]:
+            inbox.put(db, self.out, id, self.notification)
+        return bool(found[-1])

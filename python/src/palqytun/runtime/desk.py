@@ -15,7 +15,7 @@ from typing import TypeVar
 
 from . import acts, announced, chains, invocations
 from .announced import Target
-from .committer import Committer, Stopped
+from .committer import After, Committer, Stopped
 from .database import Conflict, Database, Lost, connect
 from .filters import Filter
 from .invocations import Claim, New
@@ -73,13 +73,15 @@ class Desk:
         """A transaction is committed: those whom it touches are notified."""
         raise NotImplementedError
 
-    async def transact(self, operation: Callable[[Database], Awaitable[T]], is_slow: bool = False, then: Callable[[T], None] | None = None) -> T:
+    async def transact(self, operation: Callable[[Database], Awaitable[T]] | After, is_slow: bool = False, then: Callable[[T], None] | None = None) -> T:
         """Commits an operation, in one transaction with others that are queued. Raises `Unavailable` if there is no database. `then` is as `submit`'s."""
         if self._committer is None:
             raise Unavailable("the database can't be used now: there is no connection")
         try:
             async with asyncio.timeout(_ANSWERED):  # `wait_for` drops a cancellation that comes with the result
-                return await self._committer.submit(operation, is_slow, then)
+                made: asyncio.Future[T]
+                made = self._committer.follow(operation) if isinstance(operation, After) else self._committer.submit(operation, is_slow, then)
+                return await made
         except asyncio.TimeoutError:
             raise Unavailable(f"something has been in the way in the database for {_ANSWERED:g} seconds") from None
         except Stopped as error:
@@ -180,9 +182,9 @@ class Desk:
 
     async def notify(self, invocation: str, notification: bytes) -> bool:
         """Sends a signal from outside; returns whether there is an invocation that gets it."""
-        out = Outcome()
-        is_there = await self.transact(lambda db: chains.deliver(db, out, invocation, notification))
-        self.tell(out)
+        it = chains.Delivery(Outcome(), invocation, notification)
+        is_there = bool(await self.transact(After(it.reads, it.then)))
+        self.tell(it.out)
         return is_there
 
     async def act(self, name: str, invocation: str, who: str) -> str:

@@ -152,12 +152,12 @@ async def attach(db: Database, growth: Growth, invocation: str | None, id: int) 
 
 
 _LAST = "(SELECT id FROM invocations WHERE chain=COALESCE((SELECT chain FROM invocations WHERE id=?), ?) ORDER BY seq DESC LIMIT 1)"
-_NEWEST = f"SELECT COALESCE((SELECT id FROM invocations WHERE id=? AND continued IS NULL), {_LAST}, ?)"
+NEWEST = f"SELECT COALESCE((SELECT id FROM invocations WHERE id=? AND continued IS NULL), {_LAST}, ?)"
 
 
 async def newest(db: Database, id: str) -> str:
     """The invocation that goes on instead of this one, or else this one."""
-    return str((await db.rows(_NEWEST, (id, id, id, id)))[0][0])
+    return str((await db.rows(NEWEST, (id, id, id, id)))[0][0])
 
 
 def goes_over(frame: bytes) -> bool:
