@@ -389,6 +389,37 @@ static int loan(uint32_t layer, buffer *received)
     return ended;
 }
 
+/* The same by a reply. */
+static int reply(uint32_t layer, buffer *received)
+{
+    session it = {NULL, layer, sizeof begun};
+    int ended = begin(&it, v8);
+    if (ended == 0)
+        ended = sleeps(&it);
+    palqytun_replied replied = palqytun_output(it.vm);
+    if (ended == 0 && replied.status == PALQYTUN_REFUSED)
+        ended = made(replied);
+    if (ended == 0)
+        printf("a reply: %" PRIu32 ", %zu bytes\n", replied.status, replied.len);
+    if (ended == 0 && is_over(&it))
+        ended = receive(&it, received);
+    else if (ended == 0)
+        received->len = palqytun_part(it.vm, 0, received->bytes, sizeof received->bytes).len;
+    palqytun_close(it.vm);
+    return ended;
+}
+
+static int replies(void)
+{
+    buffer plain = {.len = 0}, other = {.len = 0};
+    int ended = reply(PALQYTUN_LAYER_OWN, &plain);
+    if (ended == 0)
+        ended = reply(PALQYTUN_LAYER_SHORT, &other);
+    if (ended == 0 && !same(&plain, &other))
+        ended = wrong("what a reply left isn't what one has without a layer");
+    return ended;
+}
+
 static int loans(void)
 {
     buffer plain = {.len = 0}, other = {.len = 0};
@@ -411,5 +442,7 @@ int main(void)
         ended = lacks();
     if (ended == 0)
         ended = loans();
+    if (ended == 0)
+        ended = replies();
     return ended == 0 ? refusals() : ended;
 }

@@ -97,8 +97,8 @@ enum {
 };
 
 /* The same as palqytun_open, for a peer that speaks this layer, a PALQYTUN_LAYER_, in palqytun_feed and palqytun_take_output. A session keeps its
-   layer, and a VM that is made in it begins with nothing of the last one's bytes. Unless the layer is the VM's own, palqytun_line and
-   palqytun_lend_output are PALQYTUN_LAYERED, and palqytun_output is in the VM's own bytes still. PALQYTUN_BAD_NUMBER: the number names no
+   layer, and a VM that is made in it begins with nothing of the last one's bytes. Unless the layer is the VM's own, palqytun_line,
+   palqytun_lend_output and palqytun_output are PALQYTUN_LAYERED, since they have the VM's own bytes. PALQYTUN_BAD_NUMBER: the number names no
    layer. There is no session then, and the handle is NULL. */
 uint32_t palqytun_open_over(palqytun_vm **vm, uint32_t layer);
 
@@ -476,7 +476,8 @@ uint32_t palqytun_lend_output(palqytun_vm *vm, palqytun_bytes *output);
 palqytun_replied palqytun_make(palqytun_vm *vm, palqytun_optional content_type, const palqytun_options *options);
 
 /* About the attempt: whether the handler may be run (a flag, or PALQYTUN_CLOSED), the head of the response, that no more input comes, the bytes
-   that wait to be sent, the state, and the index of the last command. */
+   that wait to be sent (or PALQYTUN_LAYERED: the session's peer speaks another layer than the VM's own, and palqytun_take_output gives them in
+   that), the state, and the index of the last command. */
 palqytun_replied palqytun_is_ready(palqytun_vm *vm);
 palqytun_replied palqytun_head(palqytun_vm *vm);
 palqytun_replied palqytun_close_input(palqytun_vm *vm);

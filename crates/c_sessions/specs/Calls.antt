@@ -9,6 +9,7 @@ use Rattle.invocation_vm.specs.declared.core_vm.CoreVM.{CoreVM}
 use Rattle.invocation_vm.specs.Seen.{seen}
 use Rattle.invocation_vm.specs.Views.{View}
 use Rattle.vm_types.specs.declared.reply.Reply.{Reply}
+use Rattle.c_sessions.specs.declared.peer.Peer.{Peer}
 use Rattle.c_sessions.specs.declared.replied.Replied.{Replied}
 use Rattle.c_sessions.specs.declared.session.Session.{Session}
 use Rattle.c_values.specs.declared.status.Status.{Status}
@@ -58,6 +59,20 @@ CalledFromC does told (Some old) (Some new) = OnVm does told old.vm new.vm old.r
     × (new.answer ≡ old.answer) × (new.lent ≡ old.lent) × (new.peer ≡ old.peer)
 CalledFromC does told None None = told ≡ kept_told status.NoSession
 CalledFromC does told old new = ⊥
+
+-- A call whose reply has bytes of the VM's own isn't made if the session's peer speaks another layer:
+-- they wait for it still.
+abbrev pub OwnOver : Option Peer → (Result Reply Status → View → View → Type 0) → Replied → Session
+    → Session → Type 0
+OwnOver None does told old new = CalledFromC does told (Some old) (Some new)
+OwnOver (Some p) does told old new = (told ≡ kept_told status.Layered) × (new ≡ old)
+
+-- Such a call, of the VM of the session that there is.
+abbrev pub OwnFromC : (Result Reply Status → View → View → Type 0) → Replied → Option Session
+    → Option Session → Type 0
+OwnFromC does told (Some old) (Some new) = OwnOver old.peer does told old new
+OwnFromC does told None None = told ≡ kept_told status.NoSession
+OwnFromC does told old new = ⊥
 
 -- A VM is put into the session that there is, in the place of the last. If there is none, C gets
 -- the reason. The last answer to a line stays, and so does the output that C was lent. Nothing

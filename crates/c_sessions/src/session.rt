@@ -5,7 +5,7 @@ ghost use Rattle.invocation_vm.specs.Seen.{seen};
 ghost use Rattle.invocation_vm.specs.Views.{TakesOutput};
 ghost use Rattle.vm_types.specs.ContentTypes.{header_under};
 ghost use Rattle.vm_calls.specs.Making.{VmIsMade};
-ghost use Rattle.c_sessions.specs.Calls.{OnVm, part_read};
+ghost use Rattle.c_sessions.specs.Calls.{OnVm, OwnOver, part_read};
 ghost use Rattle.c_sessions.specs.Replies.{part_of, summary};
 ghost use Rattle.c_sessions.specs.Sessions.{AnswerRead, Drained, DrainedBy, Fed, FedBy, IsCleared, IsEmpty, LendsBy, PeerCleared, outgoing_of};
 
@@ -126,6 +126,16 @@ impl Session {
             Ok(replied) => numbers_by(vm.has_failed(), replied),
             Err(status) => numbers_by(vm.has_failed(), tell_status(status)),
         }
+    }
+
+    /// As `call`, of a call whose reply has bytes of the VM's own: it isn't made if the peer speaks another layer.
+    pub fn call_own<C: VmCall>(&mut self, alloc: Global, call: C) -> Replied
+        ensures { OwnOver self.old.peer (C.does call) result self.old self.new }
+    {
+        if self.peer.is_some() {
+            return tell_status(Status::Layered);
+        }
+        self.call(alloc, call)
     }
 
     /// Drops what waits beside the VM, both ways.

@@ -2,7 +2,7 @@
 ghost use Rattle.std.specs.Prelude.{◌≡◌, codes};
 ghost use Rattle.invocation_vm.specs.Making.{version_in};
 ghost use Rattle.vm_types.specs.ContentTypes.{header_under};
-ghost use Rattle.c_sessions.specs.Calls.{CalledFromC, MadeFromC, PartRead};
+ghost use Rattle.c_sessions.specs.Calls.{CalledFromC, MadeFromC, OwnFromC, PartRead};
 ghost use Rattle.c_values.specs.Statuses.{IsStatus, status_by};
 
 use crate::held::{Vm, give, take};
@@ -36,6 +36,20 @@ pub fn call<C: VmCall>(alloc: Global, vm: &mut Vm, call: C) -> Replied
     match take(alloc, vm) {
         Some(mut session) => {
             let replied = session.call(alloc, call);
+            give(alloc, vm, session);
+            replied
+        }
+        None => tell_status(Status::NoSession),
+    }
+}
+
+/// As `call`, of a call whose reply has bytes of the VM's own. A session whose peer speaks another layer has none, and stays as it is.
+pub fn call_own<C: VmCall>(alloc: Global, vm: &mut Vm, call: C) -> Replied
+    ensures { OwnFromC (C.does call) result vm.old.value vm.new.value }
+{
+    match take(alloc, vm) {
+        Some(mut session) => {
+            let replied = session.call_own(alloc, call);
             give(alloc, vm, session);
             replied
         }

@@ -1,6 +1,6 @@
 //! The typed calls of the VM.
 ghost use Rattle.std.specs.Prelude.{◌≡◌};
-ghost use Rattle.c_sessions.specs.Calls.{CalledFromC, PartRead};
+ghost use Rattle.c_sessions.specs.Calls.{CalledFromC, OwnFromC, PartRead};
 ghost use Rattle.c_values.specs.Statuses.{IsStatus, status_by};
 ghost use Rattle.c_calls.specs.Making.{MakesAsGiven};
 ghost use Rattle.c_calls.specs.Calls.{AsksCompleted, AsksIndex, AsksReady, AsksState, AttachesTo, AwaitsHandle, AwaitsNodes, CallsHandler, CallsWithDeadline, CancelsInvocation, ClearsAllState, ClearsState, ClosesInput, CompletesAwakeable, CompletesPromise, CompletesSignal, EndsHandler, GetsOutput, GetsPromise, MakesAwakeable, MakesSignal, PeeksPromise, ProposesResult, ProposesRetryable, ReadsEphemerally, ReadsHead, ReadsInput, ReadsKeys, ReadsState, ReportsError, CallsARun, SendsTo, SetsState, CallsSleep, TakesResult, TakesEphemeral, TakesOutputOf, WritesOutput};
@@ -25,7 +25,7 @@ use c_calls::state::{
     ClearAllCall, ClearCall, EphemeralGetCall, GetCall, GetKeysCall, SetCall, TakeEphemeralCall,
 };
 use c_calls::values::GivenValue;
-use c_sessions::vm_call::{call, read_part};
+use c_sessions::vm_call::{call, call_own, read_part};
 use c_sessions::{Replied, Vm};
 use c_values::Told;
 use std::alloc::Global;
@@ -381,12 +381,12 @@ pub extern "C" fn proved_close_input(alloc: Global, vm: &mut Vm) -> Replied
     call(alloc, vm, CloseCall)
 }
 
-/// Takes the bytes that wait to be sent.
+/// Takes the bytes that wait to be sent: the VM's own, so a session whose peer speaks another layer is given none.
 #[unsafe(no_mangle)]
 pub extern "C" fn proved_output(alloc: Global, vm: &mut Vm) -> Replied
-    ensures { CalledFromC TakesOutputOf result vm.old.value vm.new.value }
+    ensures { OwnFromC TakesOutputOf result vm.old.value vm.new.value }
 {
-    call(alloc, vm, OutputCall)
+    call_own(alloc, vm, OutputCall)
 }
 
 /// Whether the handler may be run.
