@@ -68,7 +68,7 @@ static int wrong(const char *what)
 /* The exit status of a typed call: 0 if it was made. */
 static int made(palqytun_replied replied)
 {
-    if (replied.status == PALQYTUN_REFUSED && replied.number == 500 && replied.len == 0)
+    if (replied.kind == PALQYTUN_OUT_OF_MEMORY)
         return failed(PALQYTUN_NO_MEMORY);
     return replied.status == PALQYTUN_DONE ? 0 : failed(replied.status);
 }
@@ -289,8 +289,8 @@ static int spoiled(uint32_t layer, buffer *received)
     if (ended == 0)
         ended = is_over(&it) ? feed(&it, bad_mark, sizeof bad_mark) : feed(&it, bad_type, sizeof bad_type);
     palqytun_replied replied = palqytun_input(it.vm);
-    if (ended == 0 && replied.number == 500 && replied.len == 0)
-        ended = failed(PALQYTUN_NO_MEMORY);
+    if (ended == 0 && replied.status != PALQYTUN_REFUSED)
+        ended = failed(replied.status);
     if (ended == 0)
         printf("no frame: %" PRIu32 " %" PRIu64 "\n", replied.kind, replied.number);
     if (ended == 0)
@@ -397,7 +397,7 @@ static int reply(uint32_t layer, buffer *received)
     if (ended == 0)
         ended = sleeps(&it);
     palqytun_replied replied = palqytun_output(it.vm);
-    if (ended == 0 && replied.status == PALQYTUN_REFUSED)
+    if (ended == 0 && replied.status != PALQYTUN_LAYERED)
         ended = made(replied);
     if (ended == 0)
         printf("a reply: %" PRIu32 ", %zu bytes\n", replied.status, replied.len);

@@ -242,6 +242,44 @@ static void values(void)
     palqytun_journal_close(journal);
 }
 
+/* ---- layers, and errors that read as another */
+
+/* What has the VM's own bytes isn't given to a session whose peer speaks another layer, with a VM or without. */
+static void layers(void)
+{
+    palqytun_vm *vm;
+    palqytun_bytes lent;
+    if (palqytun_open_over(&vm, PALQYTUN_LAYER_SHORT) != PALQYTUN_DONE)
+        exit(2);
+    for (int i = 0; i < 2; i++) {
+        gets("a reply of another layer", palqytun_output(vm).status, PALQYTUN_LAYERED);
+        gets("a loan of another layer", palqytun_lend_output(vm, &lent), PALQYTUN_LAYERED);
+        gets("a line over another layer", palqytun_line(vm, (const uint8_t *)"state", 5).status, PALQYTUN_LAYERED);
+        gets("another VM", palqytun_make(vm, (palqytun_optional){true, bytes("application/vnd.restate.invocation.v7")}, NULL).status, PALQYTUN_DONE);
+    }
+    palqytun_close(vm);
+}
+
+/* An error that the handler reports, by a line or a call, isn't want of memory, though it reads so. A new VM has none of it. */
+static void mimics(void)
+{
+    static const palqytun_error error = {.code = PALQYTUN_CODE_INTERNAL};
+    static const uint8_t line[] = "error 500 \"\"";
+    palqytun_vm *by_call = opened(), *by_line = opened();
+    gets("an error without a text", palqytun_report_error(by_call, &error, NULL).status, PALQYTUN_DONE);
+    gets("the same by a line", palqytun_line(by_line, line, sizeof line - 1).status, PALQYTUN_DONE);
+    palqytun_vm *both[] = {by_call, by_line};
+    for (int i = 0; i < 2; i++) {
+        palqytun_replied replied = palqytun_sleep(both[i], nothing, 1);
+        gets("it refuses each call", replied.status, PALQYTUN_REFUSED);
+        gets("as an error", replied.kind, PALQYTUN_ERROR);
+        gets("again", palqytun_is_ready(both[i]).status, PALQYTUN_REFUSED);
+        gets("another VM", palqytun_make(both[i], (palqytun_optional){true, bytes("application/vnd.restate.invocation.v7")}, NULL).status, PALQYTUN_DONE);
+        gets("it lives", palqytun_is_ready(both[i]).status, PALQYTUN_DONE);
+        palqytun_close(both[i]);
+    }
+}
+
 /* ---- what numbers say */
 
 static void names(void)
@@ -605,6 +643,8 @@ static void *misuses(void *it)
     handles();
     pointers();
     values();
+    layers();
+    mimics();
     lends();
     lends_long();
     ends_loans();

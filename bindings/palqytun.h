@@ -104,7 +104,7 @@ uint32_t palqytun_open_over(palqytun_vm **vm, uint32_t layer);
 
 /* Performs one line, without its end, and returns how long its reply is. A line that isn't understood has a reply too,
    `bad`. PALQYTUN_NO_MEMORY: the last reply stays, and the line may have been performed: close the session. (If the VM
-   itself finds no memory it has failed, and the reply is `err 500 ""`.) PALQYTUN_LAYERED: nothing was done. */
+   itself finds no memory it has failed, and the reply is `err 500 ""`; palqytun_is_ready tells it from an error that was reported.) PALQYTUN_LAYERED: nothing was done. */
 palqytun_told palqytun_line(palqytun_vm *vm, const uint8_t *line, size_t line_len);
 
 /* Writes the last reply to the front of out, and returns how long it is. It has no line end, and no 0 after it. It stays, and can
@@ -131,8 +131,9 @@ uint32_t palqytun_close(palqytun_vm *vm);
 
    Each makes one call of the VM, and returns its reply, a palqytun_replied. Its numbers are there at once. Its texts and
    bytes are its parts: they stay in the session until the next typed call, and palqytun_part copies them out. If the status is
-   neither PALQYTUN_DONE nor PALQYTUN_REFUSED the call was not made, and the last reply stays. PALQYTUN_NO_MEMORY says that a text
-   or bytes could not be copied; if the VM itself finds no memory it has failed, and the error's code is 500.
+   neither PALQYTUN_DONE nor PALQYTUN_REFUSED the call was not made, and the last reply stays. There is one exception: PALQYTUN_NO_MEMORY and a
+   reply of the kind PALQYTUN_ERROR. The VM itself has found no memory, and has failed by that; or it has failed by another error, and found none
+   to copy that. Without this kind a text or bytes could not be copied. No error that a handler reports has this status, whichever its code is.
 
    A name may be empty: then the command has none. */
 
@@ -472,7 +473,7 @@ palqytun_told palqytun_part(palqytun_vm *vm, size_t at, uint8_t *out, size_t out
 uint32_t palqytun_lend_output(palqytun_vm *vm, palqytun_bytes *output);
 
 /* Makes a VM, which replaces the session's last one, for the version that the content type names. The reply is that version, or the error
-   that says why there is none. */
+   that says why there is none. PALQYTUN_NO_MEMORY: a text could not be copied; or, if the reply is a PALQYTUN_ERROR, there was none for the VM. */
 palqytun_replied palqytun_make(palqytun_vm *vm, palqytun_optional content_type, const palqytun_options *options);
 
 /* About the attempt: whether the handler may be run (a flag, or PALQYTUN_CLOSED), the head of the response, that no more input comes, the bytes

@@ -49,8 +49,7 @@ static int show(palqytun_vm *vm, const char *call, palqytun_replied replied)
 {
     if (replied.status != PALQYTUN_DONE && replied.status != PALQYTUN_REFUSED)
         return failed(replied.status);
-    /* The VM found no memory. */
-    if (replied.status == PALQYTUN_REFUSED && replied.number == 500 && replied.len == 0)
+    if (replied.kind == PALQYTUN_OUT_OF_MEMORY)
         return failed(PALQYTUN_NO_MEMORY);
     char line[512];
     int end = snprintf(line, sizeof line, "%-20s %" PRIu32 "  %" PRIu32 " %" PRIu32 " %" PRIu32 " %" PRIu64 "  %zu %zu", call,
@@ -219,6 +218,20 @@ static int suspend(palqytun_vm *vm)
     return ended;
 }
 
+/* An error of the handler's own that has the code and the text of want of memory, which it isn't. */
+static int mimic(palqytun_vm *vm)
+{
+    const palqytun_error error = {500, 0, bytes(""), bytes(""), false, 0};
+    int ended = begin_again(vm);
+    if (ended == 0)
+        ended = show(vm, "report_error", palqytun_report_error(vm, &error, NULL));
+    if (ended == 0)
+        ended = show(vm, "sleep", palqytun_sleep(vm, bytes(""), 1));
+    if (ended == 0)
+        ended = show(vm, "is_ready", palqytun_is_ready(vm));
+    return ended;
+}
+
 /* The handler's result, its output, and a call of a VM that is closed. */
 static int finish(palqytun_vm *vm)
 {
@@ -269,6 +282,8 @@ static int run(palqytun_vm *vm)
         ended = report(vm);
     if (ended == 0)
         ended = suspend(vm);
+    if (ended == 0)
+        ended = mimic(vm);
     return ended;
 }
 

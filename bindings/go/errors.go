@@ -18,8 +18,8 @@ var (
 	ErrClosed = errors.New("the handler has ended")
 	// ErrJournalMismatch: the handler makes another call than the journal has recorded.
 	ErrJournalMismatch = errors.New("the handler makes another call than the journal has recorded")
-	// ErrNoMemory: a call that changes nothing found no memory, and may be made again. [StatusNoMemory] is one too. Once a VM has failed since it
-	// found no memory, its error has the code [CodeInternal] and no message, as one that a handler reports may have: it isn't one.
+	// ErrNoMemory: a call that changes nothing found no memory, and may be made again. [StatusNoMemory] is one too: the call wasn't made, or the VM
+	// has failed since it found no memory.
 	ErrNoMemory = errors.New("no memory was found")
 )
 

@@ -116,8 +116,8 @@ impl Error {
         self.has_code(sys::CODE_JOURNAL_MISMATCH)
     }
 
-    /// Whether no memory was found: by the library, or by a call of the VM that changes nothing and may be made again. Once a VM has failed
-    /// since it found no memory, its error has code 500 and no message, as one that a handler reports may have: for this it is false.
+    /// Whether no memory was found: by the library, by a call of the VM that changes nothing and may be made again, or by a VM that has failed
+    /// by that. It is false for an error that was handed in, with any code.
     pub fn is_no_memory(&self) -> bool {
         self.has_kind(sys::OUT_OF_MEMORY) || *self == Error::Status(Status::NoMemory)
     }

@@ -1,5 +1,5 @@
 -- Of which kind the errors of a call are, by what it does.
-use Rattle.std.proofs.Common.{◌≡◌, ◌⊎◌, ℕ, false, List, Option, Some, None, Result, Ok, Err, inl, inr, refl, sym, ap, subst, ◌∙◌, arith}
+use Rattle.std.proofs.Common.{◌≡◌, ◌⊎◌, ℕ, true, false, List, Option, Some, None, Result, Ok, Err, inl, inr, refl, sym, ap, subst, ◌∙◌, arith}
 use Rattle.std.specs.Prelude.{is_some, Bool}
 use Rattle.std.specs.declared.alloc.AllocError.{AllocError}
 use Rattle.journal_protocol.specs.Error.{Error}
@@ -17,7 +17,7 @@ use Rattle.c_sessions.specs.Replies.{kept_told, kind_code, numbers_by, summary, 
 use Rattle.c_sessions.specs.declared.kind.Kind.{Kind}
 use Rattle.c_sessions.specs.declared.kind.Kind.TheVariants as kind
 use Rattle.c_sessions.specs.declared.replied.Replied.{Replied}
-use Rattle.c_sessions.proofs.Erring.{IsNoError, IsRefusal, error_kind, error_number, error_or_not, error_status, number_stays, status_stays, unfailed_error}
+use Rattle.c_sessions.proofs.Erring.{IsNoError, IsRefusal, error_kind, error_number, error_or_not, error_status, failed_kind, five_said, number_stays, unfailed_error}
 use Rattle.c_values.specs.Statuses.{status_by, status_number}
 use Rattle.c_values.specs.declared.status.Status.{Status}
 use Rattle.c_values.specs.declared.status.Status.TheVariants as status
@@ -55,79 +55,81 @@ unmade_never makes s old new m five = m
 
 -- ---- what C gets
 
-status_of : (failed : Bool) (told said : Replied) → told ≡ numbers_by failed said → told.status ≡ said.status
-status_of failed told said is = ap (λ (z : Replied). z.status) is ∙ status_stays failed said
+-- what has the status of a refusal was one before
+said_five : (failed mimics : Bool) (told said : Replied) → told ≡ numbers_by failed mimics said → told.status ≡ 5 → said.status ≡ 5
+said_five failed mimics told said is five = five_said failed mimics said (sym (ap (λ (z : Replied). z.status) is) ∙ five)
 
 zero_five : (n : ℕ) → n ≡ 0 → n ≡ 5 → ⊥
 zero_five n z e = omega (arith, z, e)
 
-kind_of_failed : (e : Error) (r : Reply) (told : Replied) → r ≡ reply.Refused e → told ≡ summary r → told.kind ≡ 21
-kind_of_failed e r told is by = ap (λ (z : Replied). z.kind) by ∙ error_kind r e is
+kind_of_failed : (mimics : Bool) (e : Error) (r : Reply) (told : Replied) → r ≡ reply.Refused e → told ≡ numbers_by true mimics (summary r) → told.kind ≡ 21
+kind_of_failed mimics e r told is by = ap (λ (z : Replied). z.kind) by ∙ failed_kind mimics (summary r) ∙ error_kind r e is
 
-number_of : (e : Error) (r : Reply) (told : Replied) (code : ℕ) → r ≡ reply.Refused e → told ≡ numbers_by false (summary r) → e.code ≡ code → told.number ≡ code
-number_of e r told code is by has = ap (λ (z : Replied). z.number) by ∙ number_stays false (summary r) ∙ error_number r e is ∙ has
+number_of : (mimics : Bool) (e : Error) (r : Reply) (told : Replied) (code : ℕ) → r ≡ reply.Refused e → told ≡ numbers_by false mimics (summary r) → e.code ≡ code → told.number ≡ code
+number_of mimics e r told code is by has = ap (λ (z : Replied). z.number) by ∙ number_stays mimics (summary r) ∙ error_number r e is ∙ has
 
-kind_of_unfailed : (e : Error) (r : Reply) (told : Replied) (code : ℕ) → r ≡ reply.Refused e → told ≡ numbers_by false (summary r) → e.code ≡ code → told.kind ≡ unfailed_kind code
-kind_of_unfailed e r told code is by has =
-    ap (λ (z : Replied). z.kind) by ∙ unfailed_error (summary r) (error_status r e is)
+kind_of_unfailed : (mimics : Bool) (e : Error) (r : Reply) (told : Replied) (code : ℕ) → r ≡ reply.Refused e → told ≡ numbers_by false mimics (summary r) → e.code ≡ code
+    → told.kind ≡ unfailed_kind code
+kind_of_unfailed mimics e r told code is by has =
+    ap (λ (z : Replied). z.kind) by ∙ unfailed_error mimics (summary r) (error_status r e is)
     ∙ ap unfailed_kind (error_number r e is ∙ has)
 
-told_as : (failure : Option Error) (k : Kind) (code : ℕ) (e : Error) (r : Reply) (told : Replied) → unfailed_kind code ≡ kind_code k → r ≡ reply.Refused e
-    → told ≡ numbers_by (is_some failure) (summary r) → (failure ≡ None → e.code ≡ code) → IsToldAs k code told failure
-told_as (Some x) k code e r told named is by has = kind_of_failed e r told is by
-told_as None k code e r told named is by has =
-    (kind_of_unfailed e r told code is by (has refl) ∙ named, number_of e r told code is by (has refl))
+told_as : (failure : Option Error) (mimics : Bool) (k : Kind) (code : ℕ) (e : Error) (r : Reply) (told : Replied) → unfailed_kind code ≡ kind_code k → r ≡ reply.Refused e
+    → told ≡ numbers_by (is_some failure) mimics (summary r) → (failure ≡ None → e.code ≡ code) → IsToldAs k code told failure
+told_as (Some x) mimics k code e r told named is by has = kind_of_failed mimics e r told is by
+told_as None mimics k code e r told named is by has =
+    (kind_of_unfailed mimics e r told code is by (has refl) ∙ named, number_of mimics e r told code is by (has refl))
 
-told_as_error : (failure : Option Error) (e : Error) (r : Reply) (told : Replied) → r ≡ reply.Refused e
-    → told ≡ numbers_by (is_some failure) (summary r) → (failure ≡ None → ⊥) → IsToldAsError told failure
-told_as_error (Some x) e r told is by never = kind_of_failed e r told is by
-told_as_error None e r told is by never = absurd (never refl)
+told_as_error : (failure : Option Error) (mimics : Bool) (e : Error) (r : Reply) (told : Replied) → r ≡ reply.Refused e
+    → told ≡ numbers_by (is_some failure) mimics (summary r) → (failure ≡ None → ⊥) → IsToldAsError told failure
+told_as_error (Some x) mimics e r told is by never = kind_of_failed mimics e r told is by
+told_as_error None mimics e r told is by never = absurd (never refl)
 
 -- ---- a call by its outcome
 
-made_as : (makes : Reply → View → View → Type 0) (k : Kind) (code : ℕ) (r : Reply) (told : Replied) (old new : View) → unfailed_kind code ≡ kind_code k
+made_as : (makes : Reply → View → View → Type 0) (mimics : Bool) (k : Kind) (code : ℕ) (r : Reply) (told : Replied) (old new : View) → unfailed_kind code ≡ kind_code k
     → ((e : Error) (before after : View) → makes (reply.Refused e) before after → after.machine.failure ≡ None → e.code ≡ code)
-    → makes r old new → told ≡ numbers_by (is_some new.machine.failure) (summary r) → told.status ≡ 5 → IsRefusal r ⊎ IsNoError (summary r)
+    → makes r old new → told ≡ numbers_by (is_some new.machine.failure) mimics (summary r) → told.status ≡ 5 → IsRefusal r ⊎ IsNoError (summary r)
     → IsToldAs k code told new.machine.failure
-made_as makes k code r told old new named has done by five (inl x) =
-    told_as new.machine.failure k code x.0 r told named x.1 by (has x.0 old new (subst (λ z. makes z old new) x.1 done))
-made_as makes k code r told old new named has done by five (inr x) =
-    absurd (zero_five told.status (status_of (is_some new.machine.failure) told (summary r) by ∙ x.0) five)
+made_as makes mimics k code r told old new named has done by five (inl x) =
+    told_as new.machine.failure mimics k code x.0 r told named x.1 by (has x.0 old new (subst (λ z. makes z old new) x.1 done))
+made_as makes mimics k code r told old new named has done by five (inr x) =
+    absurd (zero_five (summary r).status x.0 (said_five (is_some new.machine.failure) mimics told (summary r) by five))
 
-made_as_error : (makes : Reply → View → View → Type 0) (r : Reply) (told : Replied) (old new : View) → FailsIn makes
-    → makes r old new → told ≡ numbers_by (is_some new.machine.failure) (summary r) → told.status ≡ 5 → IsRefusal r ⊎ IsNoError (summary r)
+made_as_error : (makes : Reply → View → View → Type 0) (mimics : Bool) (r : Reply) (told : Replied) (old new : View) → FailsIn makes
+    → makes r old new → told ≡ numbers_by (is_some new.machine.failure) mimics (summary r) → told.status ≡ 5 → IsRefusal r ⊎ IsNoError (summary r)
     → IsToldAsError told new.machine.failure
-made_as_error makes r told old new fails done by five (inl x) =
-    told_as_error new.machine.failure x.0 r told x.1 by (fails x.0 old new (subst (λ z. makes z old new) x.1 done))
-made_as_error makes r told old new fails done by five (inr x) =
-    absurd (zero_five told.status (status_of (is_some new.machine.failure) told (summary r) by ∙ x.0) five)
+made_as_error makes mimics r told old new fails done by five (inl x) =
+    told_as_error new.machine.failure mimics x.0 r told x.1 by (fails x.0 old new (subst (λ z. makes z old new) x.1 done))
+made_as_error makes mimics r told old new fails done by five (inr x) =
+    absurd (zero_five (summary r).status x.0 (said_five (is_some new.machine.failure) mimics told (summary r) by five))
 
-unmade_told : (does : Call) (s : Status) (told : Replied) (old new : View) → Unmade does → does (Err s) old new
-    → told ≡ numbers_by (is_some new.machine.failure) (kept_told s) → told.status ≡ 5 → ⊥
-unmade_told does s told old new unmade done by five =
-    unmade s old new done (sym (status_of (is_some new.machine.failure) told (kept_told s) by) ∙ five)
+unmade_told : (does : Call) (mimics : Bool) (s : Status) (told : Replied) (old new : View) → Unmade does → does (Err s) old new
+    → told ≡ numbers_by (is_some new.machine.failure) mimics (kept_told s) → told.status ≡ 5 → ⊥
+unmade_told does mimics s told old new unmade done by five =
+    unmade s old new done (said_five (is_some new.machine.failure) mimics told (kept_told s) by five)
 
-outcome_as : (does : Call) (k : Kind) (code : ℕ) (outcome : Result Reply Status) (told : Replied) (old new : View) → unfailed_kind code ≡ kind_code k → Unmade does
+outcome_as : (does : Call) (mimics : Bool) (k : Kind) (code : ℕ) (outcome : Result Reply Status) (told : Replied) (old new : View) → unfailed_kind code ≡ kind_code k → Unmade does
     → ((e : Error) (before after : View) → does (Ok (reply.Refused e)) before after → after.machine.failure ≡ None → e.code ≡ code)
-    → does outcome old new → told ≡ numbers_by (is_some new.machine.failure) (outcome_told outcome) → told.status ≡ 5 → IsToldAs k code told new.machine.failure
-outcome_as does k code (Ok r) told old new named unmade has done by five =
-    made_as (λ z. does (Ok z)) k code r told old new named has done by five (error_or_not r)
-outcome_as does k code (Err s) told old new named unmade has done by five = absurd (unmade_told does s told old new unmade done by five)
+    → does outcome old new → told ≡ numbers_by (is_some new.machine.failure) mimics (outcome_told outcome) → told.status ≡ 5 → IsToldAs k code told new.machine.failure
+outcome_as does mimics k code (Ok r) told old new named unmade has done by five =
+    made_as (λ z. does (Ok z)) mimics k code r told old new named has done by five (error_or_not r)
+outcome_as does mimics k code (Err s) told old new named unmade has done by five = absurd (unmade_told does mimics s told old new unmade done by five)
 
-outcome_as_error : (does : Call) (outcome : Result Reply Status) (told : Replied) (old new : View) → Unmade does
-    → FailsIn (λ z. does (Ok z)) → does outcome old new → told ≡ numbers_by (is_some new.machine.failure) (outcome_told outcome) → told.status ≡ 5
+outcome_as_error : (does : Call) (mimics : Bool) (outcome : Result Reply Status) (told : Replied) (old new : View) → Unmade does
+    → FailsIn (λ z. does (Ok z)) → does outcome old new → told ≡ numbers_by (is_some new.machine.failure) mimics (outcome_told outcome) → told.status ≡ 5
     → IsToldAsError told new.machine.failure
-outcome_as_error does (Ok r) told old new unmade fails done by five = made_as_error (λ z. does (Ok z)) r told old new fails done by five (error_or_not r)
-outcome_as_error does (Err s) told old new unmade fails done by five = absurd (unmade_told does s told old new unmade done by five)
+outcome_as_error does mimics (Ok r) told old new unmade fails done by five = made_as_error (λ z. does (Ok z)) mimics r told old new fails done by five (error_or_not r)
+outcome_as_error does mimics (Err s) told old new unmade fails done by five = absurd (unmade_told does mimics s told old new unmade done by five)
 
 pub refuses_as : (does : Call) (k : Kind) (code : ℕ) → unfailed_kind code ≡ kind_code k → Unmade does
     → ((e : Error) (before after : View) → does (Ok (reply.Refused e)) before after → after.machine.failure ≡ None → e.code ≡ code) → RefusesAs k code does
-refuses_as does k code named unmade has told old new last next c five =
-    outcome_as does k code c.outcome told (seen old) (seen new) named unmade has c.done c.told five
+refuses_as does k code named unmade has told old new was is last next c five =
+    outcome_as does is k code c.outcome told (seen old) (seen new) named unmade has c.done c.told five
 
 pub fails_by : (does : Call) → Unmade does → FailsIn (λ z. does (Ok z)) → FailsByRefusal does
-fails_by does unmade fails told old new last next c five =
-    outcome_as_error does c.outcome told (seen old) (seen new) unmade fails c.done c.told five
+fails_by does unmade fails told old new was is last next c five =
+    outcome_as_error does is c.outcome told (seen old) (seen new) unmade fails c.done c.told five
 
 -- ---- by how a call is made
 

@@ -1,5 +1,5 @@
 -- Of which kind the errors are that a call from C returns.
-use Rattle.std.specs.Prelude.{◌≡◌, ℕ, Option, Some, None}
+use Rattle.std.specs.Prelude.{◌≡◌, ℕ, Bool, Option, Some, None}
 use Rattle.journal_protocol.specs.Error.{Error}
 use Rattle.invocation_vm.specs.Seen.{seen}
 use Rattle.invocation_vm.specs.declared.core_vm.CoreVM.{CoreVM}
@@ -19,8 +19,8 @@ IsToldAs k code told None = (told.kind ≡ kind_code k) × (told.number ≡ code
 
 -- Each error that this call returns is so.
 abbrev pub RefusesAs : Kind → ℕ → Call → Type 0
-RefusesAs k code does = (told : Replied) (old new : CoreVM) (last next : Reply)
-    → IsCalled does told old new last next → told.status ≡ 5
+RefusesAs k code does = (told : Replied) (old new : CoreVM) (was is : Bool)
+    (last next : Reply) → IsCalled does told old new was is last next → told.status ≡ 5
     → IsToldAs k code told (seen new).machine.failure
 
 -- the VM has failed, and its error is of the kind of errors
@@ -30,6 +30,6 @@ IsToldAsError told None = ⊥
 
 -- Each error that this call returns has failed the VM.
 abbrev pub FailsByRefusal : Call → Type 0
-FailsByRefusal does = (told : Replied) (old new : CoreVM) (last next : Reply)
-    → IsCalled does told old new last next → told.status ≡ 5
+FailsByRefusal does = (told : Replied) (old new : CoreVM) (was is : Bool)
+    (last next : Reply) → IsCalled does told old new was is last next → told.status ≡ 5
     → IsToldAsError told (seen new).machine.failure

@@ -1,6 +1,6 @@
 -- The kind of a reply, by whether it is an error and whether the VM has failed.
 use Rattle.std.proofs.Common.{◌≡◌, ◌⊎◌, ◌<◌, ℕ, Bool, true, false, Option, Some, None, Result, Ok, Err, inl, inr, refl, sym, ap, ◌∙◌, arith}
-use Rattle.std.specs.Prelude.{◌==◌, nat_lt, if◌then◌else◌, ℤ, pos, negsuc}
+use Rattle.std.specs.Prelude.{◌==◌, ◌&&◌, not, nat_lt, if◌then◌else◌, ℤ, pos, negsuc, is_none, length}
 use Rattle.std.proofs.lemmas.Bool.{false≢true}
 use Rattle.std.proofs.lemmas.Bool.Decides.{nat_tests}
 use Rattle.journal_protocol.specs.Error.{Error}
@@ -14,7 +14,7 @@ use Rattle.vm_types.specs.declared.types.AwaitResponse.TheVariants as response
 use Rattle.vm_types.specs.declared.values.Value.{Value}
 use Rattle.vm_types.specs.declared.values.Value.TheVariants as value
 use Rattle.c_sessions.specs.Calls.{outcome_told}
-use Rattle.c_sessions.specs.Replies.{handles_told, kept_told, number_told, numbers_by, related_told, response_told, summary, taken_told, unfailed_kind, value_told}
+use Rattle.c_sessions.specs.Replies.{handles_told, kept_told, number_told, numbers_by, reads_as_memory, related_told, response_told, summary, taken_told, tells_memory, unfailed_kind, value_told}
 use Rattle.c_sessions.specs.declared.replied.Replied.{Replied}
 use Rattle.c_values.specs.declared.status.Status.{Status}
 
@@ -117,24 +117,39 @@ status_if : (b : Bool) (told : Replied) → (if b then record told { kind = unfa
 status_if true told = refl
 status_if false told = refl
 
-pub status_stays : (failed : Bool) (told : Replied) → (numbers_by failed told).status ≡ told.status
-status_stays true told = refl
-status_stays false told = status_if (told.status == 5) told
+one_five : 1 ≡ 5 → ⊥
+one_five e = omega (arith, e)
+
+-- what has the status of a refusal was one before
+five_if : (b : Bool) (told : Replied) → (if b then record told { status = 1 } else told).status ≡ 5 → told.status ≡ 5
+five_if true told five = absurd (one_five five)
+five_if false told five = five
+
+pub five_said : (failed mimics : Bool) (told : Replied) → (numbers_by failed mimics told).status ≡ 5 → told.status ≡ 5
+five_said true mimics told five = five_if (tells_memory told && not mimics) told five
+five_said false mimics told five = sym (status_if (told.status == 5) told) ∙ five
 
 number_if : (b : Bool) (told : Replied) → (if b then record told { kind = unfailed_kind told.number } else told).number ≡ told.number
 number_if true told = refl
 number_if false told = refl
 
-pub number_stays : (failed : Bool) (told : Replied) → (numbers_by failed told).number ≡ told.number
-number_stays true told = refl
-number_stays false told = number_if (told.status == 5) told
+pub number_stays : (mimics : Bool) (told : Replied) → (numbers_by false mimics told).number ≡ told.number
+number_stays mimics told = number_if (told.status == 5) told
+
+starved_kind : (b : Bool) (told : Replied) → (if b then record told { status = 1 } else told).kind ≡ told.kind
+starved_kind true told = refl
+starved_kind false told = refl
+
+-- an error by which a VM has failed keeps its kind
+pub failed_kind : (mimics : Bool) (told : Replied) → (numbers_by true mimics told).kind ≡ told.kind
+failed_kind mimics told = starved_kind (tells_memory told && not mimics) told
 
 -- the kind of an error by which no VM has failed
-pub unfailed_error : (told : Replied) → told.status ≡ 5 → (numbers_by false told).kind ≡ unfailed_kind told.number
-unfailed_error told five = ap (λ n. (if n == 5 then record told { kind = unfailed_kind told.number } else told).kind) five
+pub unfailed_error : (mimics : Bool) (told : Replied) → told.status ≡ 5 → (numbers_by false mimics told).kind ≡ unfailed_kind told.number
+unfailed_error mimics told five = ap (λ n. (if n == 5 then record told { kind = unfailed_kind told.number } else told).kind) five
 
-unfailed_done : (told : Replied) → told.status ≡ 0 → (numbers_by false told).kind ≡ told.kind
-unfailed_done told done = ap (λ n. (if n == 5 then record told { kind = unfailed_kind told.number } else told).kind) done
+unfailed_done : (mimics : Bool) (told : Replied) → told.status ≡ 0 → (numbers_by false mimics told).kind ≡ told.kind
+unfailed_done mimics told done = ap (λ n. (if n == 5 then record told { kind = unfailed_kind told.number } else told).kind) done
 
 kind_if : (a b : Bool) → ◌≡◌ {A = ℕ} (if a then 22 else if b then 24 else 23) 21 → ⊥
 kind_if true b e = differ 22 refl e
@@ -148,11 +163,43 @@ kept_if : (b : Bool) (told : Replied) → told.kind ≡ 0 → (if b then record 
 kept_if true told none e = no_error_kind told.number e
 kept_if false told none e = differ 0 refl (sym none ∙ e)
 
-reply_if : (r : Reply) → IsRefusal r ⊎ IsNoError (summary r) → (numbers_by false (summary r)).kind ≡ 21 → ⊥
-reply_if r (inl x) e = no_error_kind (summary r).number (sym (unfailed_error (summary r) (error_status r x.0 x.1)) ∙ e)
-reply_if r (inr x) e = not_below (summary r).kind x.1 (sym (unfailed_done (summary r) x.0) ∙ e)
+reply_if : (mimics : Bool) (r : Reply) → IsRefusal r ⊎ IsNoError (summary r) → (numbers_by false mimics (summary r)).kind ≡ 21 → ⊥
+reply_if mimics r (inl x) e = no_error_kind (summary r).number (sym (unfailed_error mimics (summary r) (error_status r x.0 x.1)) ∙ e)
+reply_if mimics r (inr x) e = not_below (summary r).kind x.1 (sym (unfailed_done mimics (summary r) x.0) ∙ e)
 
-pub error_failed : (failed : Bool) (outcome : Result Reply Status) → (numbers_by failed (outcome_told outcome)).kind ≡ 21 → failed ≡ true
-error_failed true outcome e = refl
-error_failed false (Ok r) e = absurd (reply_if r (error_or_not r) e)
-error_failed false (Err status) e = absurd (kept_if ((kept_told status).status == 5) (kept_told status) refl e)
+pub error_failed : (failed mimics : Bool) (outcome : Result Reply Status) → (numbers_by failed mimics (outcome_told outcome)).kind ≡ 21 → failed ≡ true
+error_failed true mimics outcome e = refl
+error_failed false mimics (Ok r) e = absurd (reply_if mimics r (error_or_not r) e)
+error_failed false mimics (Err status) e = absurd (kept_if ((kept_told status).status == 5) (kept_told status) refl e)
+
+-- ---- out of memory
+
+-- whether an error that relates to this command reads so, by its numbers
+tells_as : (code len : ℕ) (o : Option RelatedCommand) → tells_memory (record (related_told code o) { len = len }) ≡ ((code == 500) && (len == 0) && is_none o)
+tells_as code len (Some command) = refl
+tells_as code len None = refl
+
+tells_refused : (e : Error) → tells_memory (summary (reply.Refused e)) ≡ reads_as_memory e
+tells_refused e = tells_as e.code (length e.message) e.related_command
+
+starved_status : (b : Bool) (told : Replied) → b ≡ true → (if b && not false then record told { status = 1 } else told).status ≡ 1
+starved_status true told is = refl
+starved_status false told is = absurd (false≢true is)
+
+other_status : (b mimics : Bool) (told : Replied) → b ≡ false → told.status ≡ 5 → (if b && not mimics then record told { status = 1 } else told).status ≡ 5
+other_status true mimics told is five = absurd (false≢true (sym is))
+other_status false mimics told is five = five
+
+mimicked_status : (b : Bool) (told : Replied) → told.status ≡ 5 → (if b && not true then record told { status = 1 } else told).status ≡ 5
+mimicked_status true told five = five
+mimicked_status false told five = five
+
+pub memory_status : (e : Error) → reads_as_memory e ≡ true → (numbers_by true false (summary (reply.Refused e))).status ≡ 1
+memory_status e reads = starved_status (tells_memory (summary (reply.Refused e))) (summary (reply.Refused e)) (tells_refused e ∙ reads)
+
+pub refused_status : (mimics : Bool) (e : Error) → reads_as_memory e ≡ false → (numbers_by true mimics (summary (reply.Refused e))).status ≡ 5
+refused_status mimics e reads =
+    other_status (tells_memory (summary (reply.Refused e))) mimics (summary (reply.Refused e)) (tells_refused e ∙ reads) (error_status (reply.Refused e) e refl)
+
+pub reported_status : (e : Error) → (numbers_by true true (summary (reply.Refused e))).status ≡ 5
+reported_status e = mimicked_status (tells_memory (summary (reply.Refused e))) (summary (reply.Refused e)) (error_status (reply.Refused e) e refl)

@@ -1,5 +1,5 @@
 -- What C is given of a reply: numbers at once, and its parts one by one.
-use Rattle.std.specs.Prelude.{◌==◌, ◌/◌, ◌%◌, ◌-◌, ℕ, ℤ, pos, negsuc, Bool, true, false, if◌then◌else◌, List, length, slice_get, Option, Some, None}
+use Rattle.std.specs.Prelude.{◌==◌, ◌&&◌, ◌/◌, ◌%◌, ◌-◌, ℕ, ℤ, pos, negsuc, Bool, true, false, not, if◌then◌else◌, List, length, slice_get, Option, Some, None, is_none}
 use Rattle.std.specs.Option.{option_map}
 use Rattle.journal_protocol.specs.Types.{type_number}
 use Rattle.journal_protocol.specs.Error.{Error}
@@ -134,10 +134,35 @@ unfailed_kind code =
     else if code == 598 then kind_code kind.Closed
     else kind_code kind.OutOfMemory
 
--- The numbers of a reply by whether the VM has failed then: if it has, an error is that one.
-abbrev pub numbers_by : Bool → Replied → Replied
-numbers_by true told = told
-numbers_by false told = if told.status == 5
+-- whether an error reads as out of memory: it has code 500, says nothing, and relates to no
+-- command
+abbrev pub reads_as_memory : Error → Bool
+reads_as_memory e = (e.code == 500) && (length e.message == 0) && is_none e.related_command
+
+-- whether a reply is such an error
+abbrev pub tells_memory : Replied → Bool
+tells_memory told =
+    (told.status == 5) && (told.number == 500) && (told.len == 0) && (told.first == 0)
+
+-- Whether the error of a VM is the caller's, and only reads as out of memory. The VM has failed by
+-- it in a call that wasn't refused, for a call that finds no memory is. `was` and `had` are of
+-- before the call: whether it was so, and whether the VM had failed.
+abbrev pub mimics_by : Bool → Bool → Option Error → Bool → Bool
+mimics_by was had None refused = false
+mimics_by was true (Some e) refused = was
+mimics_by was false (Some e) refused = reads_as_memory e && not refused
+
+-- the numbers of an error that the VM has failed by: out of memory has a status of its own, unless
+-- the error only reads so
+abbrev pub memory_told : Bool → Replied → Replied
+memory_told mimics told =
+    if tells_memory told && not mimics then record told { status = 1 } else told
+
+-- The numbers of a reply by whether the VM has failed then, and whether its error only reads as out
+-- of memory.
+abbrev pub numbers_by : Bool → Bool → Replied → Replied
+numbers_by true mimics told = memory_told mimics told
+numbers_by false mimics told = if told.status == 5
     then record told { kind = unfailed_kind told.number }
     else told
 

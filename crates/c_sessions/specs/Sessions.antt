@@ -1,5 +1,5 @@
 -- What a call from C does to the session that it is given.
-use Rattle.std.specs.Prelude.{◌≡◌, ◌⊎◌, ◌<◌, ◌++◌, ℕ, List, [], length, drop, Option, Some, None, Ok}
+use Rattle.std.specs.Prelude.{◌≡◌, ◌⊎◌, ◌<◌, ◌++◌, ℕ, false, List, [], length, drop, Option, Some, None, Ok}
 use Rattle.std.specs.List.{concat}
 use Rattle.std.specs.Vec.{vec_ptr}
 use Rattle.std.proofs.Common.{Global, Vec}
@@ -19,8 +19,8 @@ use Rattle.c_values.specs.declared.status.Status.TheVariants as status
 -- no VM, no answer, no reply, and nothing is lent; its peer speaks this layer, and nothing of it
 -- waits
 abbrev pub IsEmpty : Spoken → Session → Type 0
-IsEmpty said s = (s.vm ≡ None) × (s.answer ≡ []) × (s.reply ≡ reply.Nothing) × (s.lent.items ≡ [])
-    × IsPeerOf said s.peer
+IsEmpty said s = (s.vm ≡ None) × (s.answer ≡ []) × (s.reply ≡ reply.Nothing) × (s.mimics ≡ false)
+    × (s.lent.items ≡ []) × IsPeerOf said s.peer
 
 -- a session was made, and it is empty; or there is none, since no memory was found, or since the
 -- number names no layer
@@ -61,7 +61,8 @@ FedBy bytes told p q old new = ⊥
 abbrev pub InputFed : List ℕ → Status → Option Session → Option Session → Type 0
 InputFed bytes status.NoSession None None = Unit {0}
 InputFed bytes told (Some old) (Some new) = FedBy bytes told old.peer new.peer old.vm new.vm
-    × (new.answer ≡ old.answer) × (new.reply ≡ old.reply) × (new.lent ≡ old.lent)
+    × (new.answer ≡ old.answer) × (new.reply ≡ old.reply) × (new.mimics ≡ old.mimics)
+    × (new.lent ≡ old.lent)
 InputFed bytes told old new = ⊥
 
 -- The output of a VM is taken, and written to the front of the room for it, if there is so much;
@@ -99,14 +100,15 @@ PeerCleared p q = ⊥
 -- only what waits beside the VM is dropped
 abbrev pub IsCleared : Session → Session → Type 0
 IsCleared old new = PeerCleared old.peer new.peer × (new.vm ≡ old.vm) × (new.answer ≡ old.answer)
-    × (new.reply ≡ old.reply) × (new.lent ≡ old.lent)
+    × (new.reply ≡ old.reply) × (new.mimics ≡ old.mimics) × (new.lent ≡ old.lent)
 
 -- The output of the VM of the session that there is.
 abbrev pub OutputTaken : Status → ℕ → List ℕ → List ℕ → Option Session → Option Session → Type 0
 OutputTaken status.NoSession len before after None None = (len ≡ 0) × (after ≡ before)
 OutputTaken told len before after (Some old) (Some new) =
     DrainedBy told len before after old.peer new.peer old.vm new.vm
-    × (new.answer ≡ old.answer) × (new.reply ≡ old.reply) × (new.lent ≡ old.lent)
+    × (new.answer ≡ old.answer) × (new.reply ≡ old.reply) × (new.mimics ≡ old.mimics)
+    × (new.lent ≡ old.lent)
 OutputTaken told len before after old new = ⊥
 
 -- ---- output that is lent
@@ -140,5 +142,6 @@ abbrev pub OutputLent : Status → Outgoing → Outgoing → Option Session → 
 OutputLent status.NoSession before after None None = after ≡ before
 OutputLent told before after (Some old) (Some new) =
     LendsBy old.peer told old.vm new.vm old.lent new.lent × IsLentAt told new.lent before after
-    × (new.answer ≡ old.answer) × (new.reply ≡ old.reply) × (new.peer ≡ old.peer)
+    × (new.answer ≡ old.answer) × (new.reply ≡ old.reply) × (new.mimics ≡ old.mimics)
+    × (new.peer ≡ old.peer)
 OutputLent told before after old new = ⊥

@@ -17,6 +17,6 @@ pub use held::{Vm, give, take};
 pub use kept::{keep, keep_awaited, keep_ended, keep_handle, keep_taken};
 pub use kind::Kind;
 pub use outgoing::Outgoing;
-pub use replied::{Replied, tell_status};
+pub use replied::{Replied, mimics_by, tell_status};
 pub use session::Session;
 pub use vm_call::VmCall;

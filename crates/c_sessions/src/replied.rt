@@ -1,6 +1,6 @@
 //! What C is given at once of a reply: numbers.
-ghost use Rattle.std.specs.Prelude.{◌≡◌};
-ghost use Rattle.c_sessions.specs.Replies.{with_rows, error_told, error_numbers, flag_code, handles_told, kept_told, number_told, response_told, state_code, taken_told, numbered_reply, numbers_by, told_of, unfailed_kind, value_told, version_code};
+ghost use Rattle.std.specs.Prelude.{◌≡◌, ◌==◌, is_some};
+ghost use Rattle.c_sessions.specs.Replies.{with_rows, error_told, error_numbers, flag_code, handles_told, kept_told, memory_told, mimics_by, number_told, reads_as_memory, response_told, state_code, taken_told, tells_memory, numbered_reply, numbers_by, told_of, unfailed_kind, value_told, version_code};
 
 use crate::kind::Kind;
 use c_values::Status;
@@ -236,16 +236,77 @@ fn unfailed_kind(code: u64) -> u32
     }
 }
 
-/// Of a call of a VM that has failed then, or hasn't.
-pub(crate) fn numbers_by(has_failed: bool, told: Replied) -> Replied
-    ensures { result ≡ numbers_by has_failed told }
+/// Whether an error reads as out of memory.
+fn reads_as_memory(error: &Error) -> bool
+    ensures { result ≡ reads_as_memory error.now }
 {
-    if has_failed || told.status != 5 {
+    error.code == 500 && error.message().is_empty() && error.related_command.is_none()
+}
+
+/// Whether a reply is such an error.
+fn tells_memory(told: &Replied) -> bool
+    ensures { result ≡ tells_memory told.now }
+{
+    told.status == 5 && told.number == 500 && told.len == 0 && told.first == 0
+}
+
+/// Whether a VM's error is the caller's, and only reads as out of memory: it has failed by it in a call that wasn't refused. Of before the
+/// call are whether it was so, and whether the VM had failed.
+pub fn mimics_by(was: bool, had_failed: bool, failure: &Option<Error>, refused: bool) -> bool
+    ensures { result ≡ mimics_by was had_failed failure.now refused }
+{
+    match failure {
+        None => false,
+        Some(error) => {
+            if had_failed {
+                was
+            } else {
+                reads_as_memory(error) && !refused
+            }
+        }
+    }
+}
+
+/// Of an error that the VM has failed by. Out of memory has a status of its own.
+fn memory_told(mimics: bool, told: Replied) -> Replied
+    ensures { result ≡ memory_told mimics told }
+{
+    if !tells_memory(&told) || mimics {
         return told;
+    }
+    let mut starved = told;
+    starved.status = Status::NoMemory.code();
+    starved
+}
+
+/// Of a call of a VM that has failed then, or hasn't.
+pub(crate) fn numbers_by(has_failed: bool, mimics: bool, told: Replied) -> Replied
+    ensures { result ≡ numbers_by has_failed mimics told }
+{
+    if told.status != 5 {
+        return told;
+    }
+    if has_failed {
+        return memory_told(mimics, told);
     }
     let mut unfailed = told;
     unfailed.kind = unfailed_kind(told.number);
     unfailed
+}
+
+/// Of a call of a VM that had failed before or not, and has this error now, if one. `mimics` is whether that only reads as out of memory.
+#[inline(always)]
+pub(crate) fn tell_after(
+    mimics: &mut bool,
+    had_failed: bool,
+    failure: &Option<Error>,
+    told: Replied,
+) -> Replied
+    ensures mimics { mimics.new ≡ mimics_by mimics.old had_failed failure.now (told.status == 5) }
+    ensures told { result ≡ numbers_by (is_some failure.now) mimics.new told }
+{
+    *mimics = mimics_by(*mimics, had_failed, failure, told.status == 5);
+    numbers_by(failure.is_some(), *mimics, told)
 }
 
 /// Of a call that isn't made.

@@ -1,19 +1,19 @@
 //! One VM, its last answer to a line, and its last reply to a call.
-ghost use Rattle.std.specs.Prelude.{◌≡◌, [], Ok, Some, codes};
+ghost use Rattle.std.specs.Prelude.{◌≡◌, [], Ok, Some, codes, true, false};
 ghost use Rattle.invocation_vm.specs.Making.{version_in};
 ghost use Rattle.invocation_vm.specs.Seen.{seen};
 ghost use Rattle.invocation_vm.specs.Views.{TakesOutput};
 ghost use Rattle.vm_types.specs.ContentTypes.{header_under};
 ghost use Rattle.vm_calls.specs.Making.{VmIsMade};
 ghost use Rattle.c_sessions.specs.Calls.{OnVm, OwnOver, part_read};
-ghost use Rattle.c_sessions.specs.Replies.{part_of, summary};
+ghost use Rattle.c_sessions.specs.Replies.{numbers_by, part_of, summary};
 ghost use Rattle.c_sessions.specs.Sessions.{AnswerRead, Drained, DrainedBy, Fed, FedBy, IsCleared, IsEmpty, LendsBy, PeerCleared, outgoing_of};
 
 use crate::kept::keep;
 use crate::outgoing::Outgoing;
 use crate::parts::part_of;
 use crate::peer::{Peer, Spoken, peer_of};
-use crate::replied::{Replied, numbers_by, tell_status};
+use crate::replied::{Replied, numbers_by, tell_after, tell_status};
 use crate::vm_call::VmCall;
 use bytes::Bytes;
 use c_values::{Status, write};
@@ -33,6 +33,8 @@ pub struct Session {
     pub vm: Option<CoreVM>,
     pub answer: Text,
     pub reply: Reply,
+    /// The VM has failed by an error that the caller reported, and that reads as out of memory.
+    pub mimics: bool,
     pub lent: Vec<u8>,
     /// Between the VM and its peer, unless the peer speaks the VM's own layer.
     pub peer: Option<Peer>,
@@ -98,6 +100,7 @@ impl Session {
             vm: None,
             answer: Text::empty(alloc),
             reply: Reply::Nothing,
+            mimics: false,
             lent: Vec::new(alloc),
             peer: peer_of(alloc, spoken),
         }
@@ -116,15 +119,19 @@ impl Session {
         ensures answer { self.new.answer ≡ self.old.answer }
         ensures lent { self.new.lent ≡ self.old.lent }
         ensures peer { self.new.peer ≡ self.old.peer }
-        ensures called { OnVm (C.does call) result self.old.vm self.new.vm self.old.reply
-            self.new.reply }
+        ensures called { OnVm (C.does call) result self.old.vm self.new.vm self.old.mimics
+            self.new.mimics self.old.reply self.new.reply }
     {
         let Some(vm) = &mut self.vm else {
             return tell_status(Status::NoVm);
         };
+        let had_failed = vm.has_failed();
         match call.make(alloc, vm, &mut self.reply) {
-            Ok(replied) => numbers_by(vm.has_failed(), replied),
-            Err(status) => numbers_by(vm.has_failed(), tell_status(status)),
+            Ok(replied) => tell_after(&mut self.mimics, had_failed, &vm.machine.failure, replied),
+            Err(status) => {
+                let told = tell_status(status);
+                tell_after(&mut self.mimics, had_failed, &vm.machine.failure, told)
+            }
         }
     }
 
@@ -155,11 +162,13 @@ impl Session {
         ensures made { VmIsMade alloc options
             (version_in (header_under content_type (codes "content-type")))
             self.new.reply self.new.vm }
-        ensures told { result ≡ summary self.new.reply }
+        ensures mimics { self.new.mimics ≡ false }
+        ensures told { result ≡ numbers_by true false (summary self.new.reply) }
     {
         self.clear_peer();
+        self.mimics = false;
         let reply = make_anew(alloc, &mut self.vm, content_type, options);
-        keep(&mut self.reply, reply)
+        numbers_by(true, false, keep(&mut self.reply, reply))
     }
 
     /// Writes a part of the last reply to the front of `out`, if it has room for it. Returns the part's length either way.
@@ -176,6 +185,7 @@ impl Session {
     pub fn feed(&mut self, alloc: Global, bytes: &[u8]) -> Status
         ensures answer { self.new.answer ≡ self.old.answer }
         ensures reply { self.new.reply ≡ self.old.reply }
+        ensures mimics { self.new.mimics ≡ self.old.mimics }
         ensures lent { self.new.lent ≡ self.old.lent }
         ensures fed { FedBy bytes.now result self.old.peer self.new.peer self.old.vm self.new.vm }
     {
@@ -192,6 +202,7 @@ impl Session {
     pub fn take_output(&mut self, alloc: Global, out: &mut [u8]) -> (Status, usize)
         ensures answer { self.new.answer ≡ self.old.answer }
         ensures reply { self.new.reply ≡ self.old.reply }
+        ensures mimics { self.new.mimics ≡ self.old.mimics }
         ensures lent { self.new.lent ≡ self.old.lent }
         ensures taken { DrainedBy result.0 result.1 out.old out.new self.old.peer self.new.peer
             self.old.vm self.new.vm }
@@ -210,6 +221,7 @@ impl Session {
     pub fn lend_output(&mut self) -> Status
         ensures answer { self.new.answer ≡ self.old.answer }
         ensures reply { self.new.reply ≡ self.old.reply }
+        ensures mimics { self.new.mimics ≡ self.old.mimics }
         ensures peer { self.new.peer ≡ self.old.peer }
         ensures lent { LendsBy self.old.peer result self.old.vm self.new.vm self.old.lent
             self.new.lent }

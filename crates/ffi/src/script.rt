@@ -1,22 +1,61 @@
 //! Lines of a script: one is performed on a session's VM, and its answer is kept in the session.
+ghost use Rattle.std.specs.Prelude.{◌≡◌, is_some};
+ghost use Rattle.c_sessions.specs.Replies.{mimics_by};
 ghost use Rattle.c_values.specs.Statuses.{IsStatus, status_by};
-ghost use Rattle.ffi.specs.Script.{LineAsked, LineDone, LineSent};
+ghost use Rattle.ffi.specs.Script.{LineAsked, LineDone, LineSent, failure_of, is_refusal_text};
 
-use c_sessions::{Session, Vm, give, take};
+use c_sessions::{Session, Vm, give, mimics_by, take};
 use c_values::{Status, Told, tell};
 use call_scripts::run::answer;
+use invocation_vm::CoreVM;
+use plain::Text;
 use std::alloc::Global;
+
+/// Whether an answer is an error.
+fn is_refusal(answer: &Text) -> bool
+    ensures { result ≡ is_refusal_text answer.now }
+{
+    match answer.as_str().as_bytes().first().copied() {
+        Some(byte) => byte == b'e',
+        None => false,
+    }
+}
+
+/// Whether there is a VM, and it has failed.
+fn has_failed(vm: &Option<CoreVM>) -> bool
+    ensures { result ≡ is_some (failure_of vm.now) }
+{
+    match vm {
+        Some(vm) => vm.has_failed(),
+        None => false,
+    }
+}
+
+/// Whether the error of the VM is the caller's, and only reads as out of memory.
+fn mimics(session: &Session, had_failed: bool, refused: bool) -> bool
+    ensures { result ≡ mimics_by session.now.mimics had_failed (failure_of session.now.vm) refused }
+{
+    match &session.vm {
+        Some(vm) => mimics_by(session.mimics, had_failed, &vm.machine.failure, refused),
+        None => false,
+    }
+}
 
 /// Performs a line, and keeps its answer. Out of memory, the last answer stays, and the line may have been performed.
 fn perform(session: &mut Session, alloc: Global, line: &[u8]) -> Status
     ensures { LineDone alloc line.now result session.old session.new }
 {
+    let had_failed = has_failed(&session.vm);
     match answer(alloc, &mut session.vm, line) {
         Ok(answer) => {
             session.answer = answer.into_text();
+            session.mimics = mimics(session, had_failed, is_refusal(&session.answer));
             Status::Done
         }
-        Err(_) => Status::NoMemory,
+        Err(_) => {
+            session.mimics = mimics(session, had_failed, true);
+            Status::NoMemory
+        }
     }
 }
 
