@@ -303,6 +303,17 @@ palqytun_told palqytun_part(palqytun_vm *vm, size_t at, uint8_t *out, size_t out
     return made;
 }
 
+palqytun_retry palqytun_next_retry(palqytun_vm *vm)
+{
+    uint32_t status = PALQYTUN_DONE;
+    palqytun_held *held = handle_take(&status, vm, A_VM);
+    if (status != PALQYTUN_DONE)
+        return (palqytun_retry){.status = status};
+    palqytun_retry made = proved_next_retry(held);
+    handle_give(held);
+    return made;
+}
+
 palqytun_replied palqytun_make(palqytun_vm *vm, palqytun_optional content_type, const palqytun_options *options)
 {
     uint32_t status = PALQYTUN_DONE;

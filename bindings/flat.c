@@ -34,6 +34,14 @@ uint32_t palqytun_flat_part(palqytun_vm *vm, size_t at, uint8_t *out, size_t out
     return made.status;
 }
 
+uint32_t palqytun_flat_next_retry(palqytun_vm *vm, palqytun_retry *returned)
+{
+    palqytun_retry made = palqytun_next_retry(vm);
+    if (returned != NULL)
+        *returned = made;
+    return made.status;
+}
+
 uint32_t palqytun_flat_make(palqytun_vm *vm, const uint8_t *content_type, size_t content_type_len, const palqytun_options *options, palqytun_replied *returned)
 {
     palqytun_replied made = palqytun_make(vm, (palqytun_optional){content_type != NULL, {content_type, content_type_len}}, options);

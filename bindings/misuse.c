@@ -110,6 +110,7 @@ static void handles(void)
         gets(bad[i].what, palqytun_take_output(it, out, sizeof out).status, wanted);
         gets(bad[i].what, palqytun_lend_output(it, &lent), wanted);
         gets(bad[i].what, palqytun_part(it, 0, out, sizeof out).status, wanted);
+        gets(bad[i].what, palqytun_next_retry(it).status, wanted);
         gets(bad[i].what, palqytun_sleep(it, bytes("n"), 1).status, wanted);
         gets(bad[i].what, palqytun_make(it, (palqytun_optional){0}, NULL).status, wanted);
         gets(bad[i].what, palqytun_close(it), wanted);
@@ -229,6 +230,7 @@ static void values(void)
     nodes[deep - 1].number = 2;
     gets("a deep tree that isn't one", palqytun_await_tree(vm, nodes, deep).status, PALQYTUN_BAD_TREE);
     free(nodes);
+    gets("no error", palqytun_next_retry(vm).status, PALQYTUN_NO_PART);
     gets("a part far behind", palqytun_part(vm, SIZE_MAX, NULL, 0).status, PALQYTUN_NO_PART);
     palqytun_close(vm);
 
@@ -441,7 +443,7 @@ static const palqytun_bytes key = {(const uint8_t *)"k", 1};
 #define PLAIN(name) static uint32_t do_##name(void) { return palqytun_##name(shared).status; }
 #define STORED(name, ...) static uint32_t do_##name(void) { return palqytun_##name(shared_journal, __VA_ARGS__).status; }
 
-PLAIN(is_ready) PLAIN(head) PLAIN(close_input) PLAIN(output) PLAIN(last_command_index) PLAIN(input) PLAIN(awakeable) PLAIN(end)
+PLAIN(is_ready) PLAIN(head) PLAIN(close_input) PLAIN(output) PLAIN(last_command_index) PLAIN(input) PLAIN(awakeable) PLAIN(end) PLAIN(next_retry)
 TYPED(report_error, &later, NULL)
 TYPED(await_tree, tree, 3)
 TYPED(sleep, key, 1)
@@ -486,7 +488,7 @@ static uint32_t (*const calls[])(void) = {do_state, do_completed, do_line, do_an
     do_ephemeral_state_get, do_take_ephemeral, do_call, do_call_with_deadline, do_send, do_cancel_invocation, do_attach, do_get_output, do_awakeable,
     do_complete_awakeable, do_complete_signal, do_get_promise, do_peek_promise, do_complete_promise, do_run, do_propose, do_propose_retryable,
     do_write_output, do_end, do_journal_entry, do_journal_arrive, do_journal_store, do_journal_frame, do_journal_effect, do_journal_effect_part,
-    do_journal_answer, do_lend_output};
+    do_journal_answer, do_lend_output, do_next_retry};
 enum { FEW = 16, CALLS = sizeof calls / sizeof *calls, MOST_THREADS = 8 };
 
 typedef struct {

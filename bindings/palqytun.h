@@ -459,6 +459,17 @@ typedef struct {
 /* Writes a part of the last reply to the front of out, and returns how long it is. PALQYTUN_NO_ROOM: len is the length that it needs. */
 palqytun_told palqytun_part(palqytun_vm *vm, size_t at, uint8_t *out, size_t out_len);
 
+/* What is done after an error: a PALQYTUN_BEHAVIOR_, and the delay of the next try. All but the status is 0 if it isn't PALQYTUN_DONE. */
+typedef struct {
+    uint32_t status;
+    uint32_t behavior;
+    bool has_delay;
+    uint64_t delay_millis;
+} palqytun_retry;
+
+/* What is done after the error that the last reply is. PALQYTUN_NO_PART: the last reply is no error. */
+palqytun_retry palqytun_next_retry(palqytun_vm *vm);
+
 /* Lends all bytes that wait to be sent, where palqytun_take_output copies them: they move out of the VM to a buffer of the session, and
    *output says where they lie and how many they are. They are whole frames in the VM's own layer. PALQYTUN_LAYERED: the session's peer speaks
    another one. They wait still, and palqytun_take_output gives them in that layer.

@@ -16,6 +16,7 @@ uint32_t palqytun_flat_line(palqytun_vm *vm, const uint8_t *line, size_t line_le
 uint32_t palqytun_flat_answer(palqytun_vm *vm, uint8_t *out, size_t out_len, palqytun_told *returned);
 uint32_t palqytun_flat_take_output(palqytun_vm *vm, uint8_t *out, size_t out_len, palqytun_told *returned);
 uint32_t palqytun_flat_part(palqytun_vm *vm, size_t at, uint8_t *out, size_t out_len, palqytun_told *returned);
+uint32_t palqytun_flat_next_retry(palqytun_vm *vm, palqytun_retry *returned);
 uint32_t palqytun_flat_make(palqytun_vm *vm, const uint8_t *content_type, size_t content_type_len, const palqytun_options *options, palqytun_replied *returned);
 uint32_t palqytun_flat_is_ready(palqytun_vm *vm, palqytun_replied *returned);
 uint32_t palqytun_flat_head(palqytun_vm *vm, palqytun_replied *returned);

@@ -35,6 +35,7 @@ palqytun_told proved_line(palqytun_held *vm, const uint8_t *line, size_t line_le
 palqytun_told proved_frame_line(const uint8_t *frame, size_t frame_len, uint8_t *out, size_t out_len);
 palqytun_told proved_line_frame(const uint8_t *line, size_t line_len, uint8_t *out, size_t out_len);
 palqytun_told proved_part(palqytun_held *vm, size_t at, uint8_t *out, size_t out_len);
+palqytun_retry proved_next_retry(palqytun_held *vm);
 palqytun_replied proved_make(palqytun_held *vm, palqytun_optional content_type, const palqytun_options *options);
 palqytun_replied proved_report_error(palqytun_held *vm, const palqytun_error *error, const palqytun_command *related);
 palqytun_replied proved_attach(palqytun_held *vm, const palqytun_invocation *invocation);

@@ -67,6 +67,16 @@ static int show(palqytun_vm *vm, const char *call, palqytun_replied replied)
     return 0;
 }
 
+/* Prints what is done after the error that was the last reply. */
+static int show_retry(palqytun_vm *vm)
+{
+    palqytun_retry retry = palqytun_next_retry(vm);
+    if (retry.status != PALQYTUN_DONE)
+        return failed(retry.status);
+    printf("%-20s %" PRIu32 "  %d %" PRIu64 "\n", "next_retry", retry.behavior, retry.has_delay, retry.delay_millis);
+    return 0;
+}
+
 /* Makes a VM, and feeds it the journal. */
 static int begin(palqytun_vm *vm)
 {
@@ -155,7 +165,8 @@ static int retry(palqytun_vm *vm)
     for (size_t i = 0; i < 3; i++)
         if (statuses[i] != PALQYTUN_BAD_NUMBER)
             return failed(statuses[i]);
-    return show(vm, "propose_retryable", palqytun_propose_retryable(vm, 17, 5, &later, &each));
+    ended = show(vm, "propose_retryable", palqytun_propose_retryable(vm, 17, 5, &later, &each));
+    return ended == 0 ? show_retry(vm) : ended;
 }
 
 /* Begins once more with another VM, whose handler has its input and nothing else. */
@@ -189,9 +200,11 @@ static int report(palqytun_vm *vm)
         if (statuses[i] != PALQYTUN_BAD_NUMBER)
             return failed(statuses[i]);
     ended = show(vm, "report_error", palqytun_report_error(vm, &error, &related));
+    if (ended == 0 && palqytun_next_retry(vm).status != PALQYTUN_NO_PART)
+        ended = 4;
     if (ended == 0)
         ended = show(vm, "sleep", palqytun_sleep(vm, bytes(""), 1));
-    return ended;
+    return ended == 0 ? show_retry(vm) : ended;
 }
 
 /* A suspension, and an error of the handler's own that says the same, which is no suspension. */

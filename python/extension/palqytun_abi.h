@@ -294,6 +294,13 @@ typedef struct {
 
 typedef struct {
     uint32_t status;
+    uint32_t behavior;
+    bool has_delay;
+    uint64_t delay_millis;
+} palqytun_retry;
+
+typedef struct {
+    uint32_t status;
     uint32_t type;
     bool is_completion;
     uint32_t completes;
@@ -345,6 +352,7 @@ uint32_t pq_feed(uintptr_t vm, const uint8_t *bytes, size_t bytes_len);
 uint32_t pq_take_output(uintptr_t vm, uint8_t *out, size_t out_len, palqytun_told *returned);
 uint32_t pq_close(uintptr_t vm);
 uint32_t pq_part(uintptr_t vm, size_t at, uint8_t *out, size_t out_len, palqytun_told *returned);
+uint32_t pq_next_retry(uintptr_t vm, palqytun_retry *returned);
 uint32_t pq_lend_output(uintptr_t vm, palqytun_bytes *output);
 uint32_t pq_make(uintptr_t vm, const uint8_t *content_type, size_t content_type_len, const palqytun_options *options, palqytun_replied *returned);
 uint32_t pq_is_ready(uintptr_t vm, palqytun_replied *returned);

@@ -15,6 +15,7 @@ STRUCTS = {
     "Journal": "palqytun_held",
     "Told": "palqytun_told",
     "Replied": "palqytun_replied",
+    "Retry": "palqytun_retry",
     "Lent": "palqytun_bytes",
     "Outgoing": "palqytun_bytes",
     "MayLend": "palqytun_optional",

@@ -757,6 +757,15 @@ pub struct Replied {
 
 #[derive(Clone, Copy, Debug)]
 #[repr(C)]
+pub struct Retry {
+    pub status: u32,
+    pub behavior: u32,
+    pub has_delay: bool,
+    pub delay_millis: u64,
+}
+
+#[derive(Clone, Copy, Debug)]
+#[repr(C)]
 pub struct Row {
     pub status: u32,
     pub r#type: u32,
@@ -844,6 +853,7 @@ functions! {
     take_output = "palqytun_take_output\0": (Handle, *mut u8, usize) -> Told;
     close = "palqytun_close\0": (Handle) -> u32;
     part = "palqytun_part\0": (Handle, usize, *mut u8, usize) -> Told;
+    next_retry = "palqytun_next_retry\0": (Handle) -> Retry;
     lend_output = "palqytun_lend_output\0": (Handle, *mut Bytes) -> u32;
     make = "palqytun_make\0": (Handle, Optional, *const Options) -> Replied;
     is_ready = "palqytun_is_ready\0": (Handle) -> Replied;

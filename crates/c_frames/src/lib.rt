@@ -19,6 +19,6 @@ pub use answer::{Judged, judge, unjudged};
 pub use future::awake_at;
 pub use making::{input_with, value_frame};
 pub use messages::{message_at, message_row, write_difference, write_part};
-pub use numbers::{FrameRow, unread_row};
+pub use numbers::{FrameRow, behavior_code, unread_row};
 pub use reading::frame_at;
 pub use results::notification_at;

@@ -174,7 +174,8 @@ fn target_code(target: &InvocationTarget) -> u32
     }
 }
 
-fn behavior_code(behavior: ErrorBehavior) -> u32
+/// The number of what comes of an invocation after an error.
+pub fn behavior_code(behavior: ErrorBehavior) -> u32
     ensures { result ≡ behavior_code behavior }
 {
     match behavior {

@@ -1,4 +1,5 @@
 pub mod Replies
+pub mod Retries
 pub mod Peers
 pub mod Sessions
 pub mod Calls

@@ -10,6 +10,7 @@ mod outgoing;
 mod parts;
 pub mod peer;
 mod replied;
+mod retry;
 mod session;
 pub mod vm_call;
 
@@ -18,5 +19,6 @@ pub use kept::{keep, keep_awaited, keep_ended, keep_handle, keep_taken};
 pub use kind::Kind;
 pub use outgoing::Outgoing;
 pub use replied::{Replied, mimics_by, tell_status};
+pub use retry::Retry;
 pub use session::Session;
 pub use vm_call::VmCall;

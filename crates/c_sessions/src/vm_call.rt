@@ -3,10 +3,12 @@ ghost use Rattle.std.specs.Prelude.{◌≡◌, codes};
 ghost use Rattle.invocation_vm.specs.Making.{version_in};
 ghost use Rattle.vm_types.specs.ContentTypes.{header_under};
 ghost use Rattle.c_sessions.specs.Calls.{CalledFromC, MadeFromC, OwnFromC, PartRead};
+ghost use Rattle.c_sessions.specs.Retries.{retry_in};
 ghost use Rattle.c_values.specs.Statuses.{IsStatus, status_by};
 
 use crate::held::{Vm, give, take};
 use crate::replied::{Replied, tell_status};
+use crate::retry::{Retry, no_retry, tell_retry};
 use c_values::{Status, Told, tell};
 use invocation_vm::CoreVM;
 use std::alloc::Global;
@@ -87,5 +89,20 @@ pub fn read_part(alloc: Global, vm: &mut Vm, at: usize, out: &mut [u8]) -> Told
             tell(status, len)
         }
         None => tell(Status::NoSession, 0),
+    }
+}
+
+/// What is done after the error that the last reply is.
+pub fn read_retry(alloc: Global, vm: &mut Vm) -> Retry
+    ensures kept { vm.new.value ≡ vm.old.value }
+    ensures read { result ≡ retry_in vm.old.value }
+{
+    match take(alloc, vm) {
+        Some(session) => {
+            let retry = tell_retry(&session.reply);
+            give(alloc, vm, session);
+            retry
+        }
+        None => no_retry(Status::NoSession),
     }
 }

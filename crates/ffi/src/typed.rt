@@ -1,6 +1,7 @@
 //! The typed calls of the VM.
 ghost use Rattle.std.specs.Prelude.{◌≡◌};
 ghost use Rattle.c_sessions.specs.Calls.{CalledFromC, OwnFromC, PartRead};
+ghost use Rattle.c_sessions.specs.Retries.{retry_in};
 ghost use Rattle.c_values.specs.Statuses.{IsStatus, status_by};
 ghost use Rattle.c_calls.specs.Making.{MakesAsGiven};
 ghost use Rattle.c_calls.specs.Calls.{AsksCompleted, AsksIndex, AsksReady, AsksState, AttachesTo, AwaitsHandle, AwaitsNodes, CallsHandler, CallsWithDeadline, CancelsInvocation, ClearsAllState, ClearsState, ClosesInput, CompletesAwakeable, CompletesPromise, CompletesSignal, EndsHandler, GetsOutput, GetsPromise, MakesAwakeable, MakesSignal, PeeksPromise, ProposesResult, ProposesRetryable, ReadsEphemerally, ReadsHead, ReadsInput, ReadsKeys, ReadsState, ReportsError, CallsARun, SendsTo, SetsState, CallsSleep, TakesResult, TakesEphemeral, TakesOutputOf, WritesOutput};
@@ -25,8 +26,8 @@ use c_calls::state::{
     ClearAllCall, ClearCall, EphemeralGetCall, GetCall, GetKeysCall, SetCall, TakeEphemeralCall,
 };
 use c_calls::values::GivenValue;
-use c_sessions::vm_call::{call, call_own, read_part};
-use c_sessions::{Replied, Vm};
+use c_sessions::vm_call::{call, call_own, read_part, read_retry};
+use c_sessions::{Replied, Retry, Vm};
 use c_values::Told;
 use std::alloc::Global;
 
@@ -39,6 +40,15 @@ pub extern "C" fn proved_part(alloc: Global, vm: &mut Vm, at: usize, out: &mut [
         vm.old.value }
 {
     read_part(alloc, vm, at, out)
+}
+
+/// What is done after the error that the last reply is: what comes of the invocation, and the delay of the next try.
+#[unsafe(no_mangle)]
+pub extern "C" fn proved_next_retry(alloc: Global, vm: &mut Vm) -> Retry
+    ensures kept { vm.new.value ≡ vm.old.value }
+    ensures read { result ≡ retry_in vm.old.value }
+{
+    read_retry(alloc, vm)
 }
 
 /// Makes a VM in the place of the last.

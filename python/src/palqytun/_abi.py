@@ -366,6 +366,19 @@ class Replied(Protocol):
     def len(self) -> int: ...
 
 
+class Retry(Protocol):
+    """palqytun_retry."""
+
+    @property
+    def status(self) -> int: ...
+    @property
+    def behavior(self) -> int: ...
+    @property
+    def has_delay(self) -> bool: ...
+    @property
+    def delay_millis(self) -> int: ...
+
+
 class Row(Protocol):
     """palqytun_row."""
 

@@ -266,6 +266,21 @@ class Replied(ctypes.Structure):
     len: int
 
 
+class Retry(ctypes.Structure):
+    """palqytun_retry."""
+
+    _fields_ = [
+        ("status", ctypes.c_uint32),
+        ("behavior", ctypes.c_uint32),
+        ("has_delay", ctypes.c_bool),
+        ("delay_millis", ctypes.c_uint64),
+    ]
+    status: int
+    behavior: int
+    has_delay: bool
+    delay_millis: int
+
+
 class Row(ctypes.Structure):
     """palqytun_row."""
 
@@ -362,6 +377,7 @@ FUNCTIONS: dict[str, tuple[list[Any], Any]] = {
     "take_output": ([ctypes.c_void_p, ctypes.c_char_p, ctypes.c_size_t], Told),
     "close": ([ctypes.c_void_p], ctypes.c_uint32),
     "part": ([ctypes.c_void_p, ctypes.c_size_t, ctypes.c_char_p, ctypes.c_size_t], Told),
+    "next_retry": ([ctypes.c_void_p], Retry),
     "lend_output": ([ctypes.c_void_p, ctypes.POINTER(Bytes)], ctypes.c_uint32),
     "make": ([ctypes.c_void_p, Optional, ctypes.POINTER(Options)], Replied),
     "is_ready": ([ctypes.c_void_p], Replied),

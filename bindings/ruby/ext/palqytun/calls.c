@@ -125,6 +125,18 @@ CALL(part)
     return give_bytes(&lent, &out);
 }
 
+CALL(next_retry)
+{
+    BEGIN(1);
+    uintptr_t vm = read_handle(&lent, ARG(0));
+    palqytun_retry returned = {0};
+    if (is_read(&lent))
+        pq_next_retry(vm, &returned);
+    static const char *const names[] = {"status", "behavior", "has_delay", "delay_millis"};
+    const uint64_t values[] = {returned.status, returned.behavior, returned.has_delay, returned.delay_millis};
+    return give_row(&lent, names, values, 4);
+}
+
 CALL(make)
 {
     BEGIN(3);
@@ -834,6 +846,7 @@ const struct made CALLS[] = {
     MAKES(feed)
     MAKES(take_output)
     MAKES(part)
+    MAKES(next_retry)
     MAKES(make)
     MAKES(is_ready)
     MAKES(head)

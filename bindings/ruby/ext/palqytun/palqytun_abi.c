@@ -19,6 +19,7 @@ static struct {
     uint32_t (*take_output)(void *, uint8_t *, size_t, palqytun_told *);
     uint32_t (*close)(void *);
     uint32_t (*part)(void *, size_t, uint8_t *, size_t, palqytun_told *);
+    uint32_t (*next_retry)(void *, palqytun_retry *);
     uint32_t (*lend_output)(void *, palqytun_bytes *);
     uint32_t (*make)(void *, const uint8_t *, size_t, const palqytun_options *, palqytun_replied *);
     uint32_t (*is_ready)(void *, palqytun_replied *);
@@ -109,6 +110,8 @@ static bool loads(void *object, const char **lacks)
         is_whole = false, *lacks = "palqytun_close";
     if ((*(void **)&it.part = dlsym(object, "palqytun_flat_part")) == NULL)
         is_whole = false, *lacks = "palqytun_flat_part";
+    if ((*(void **)&it.next_retry = dlsym(object, "palqytun_flat_next_retry")) == NULL)
+        is_whole = false, *lacks = "palqytun_flat_next_retry";
     if ((*(void **)&it.lend_output = dlsym(object, "palqytun_lend_output")) == NULL)
         is_whole = false, *lacks = "palqytun_lend_output";
     if ((*(void **)&it.make = dlsym(object, "palqytun_flat_make")) == NULL)
@@ -335,6 +338,11 @@ uint32_t pq_close(uintptr_t vm)
 uint32_t pq_part(uintptr_t vm, size_t at, uint8_t *out, size_t out_len, palqytun_told *returned)
 {
     return it.part((void *)vm, at, out, out_len, returned);
+}
+
+uint32_t pq_next_retry(uintptr_t vm, palqytun_retry *returned)
+{
+    return it.next_retry((void *)vm, returned);
 }
 
 uint32_t pq_lend_output(uintptr_t vm, palqytun_bytes *output)

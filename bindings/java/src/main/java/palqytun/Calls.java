@@ -6,6 +6,7 @@ final class Calls {
     static native Object feed(Object... given);
     static native Object take_output(Object... given);
     static native Object part(Object... given);
+    static native Object next_retry(Object... given);
     static native Object make(Object... given);
     static native Object is_ready(Object... given);
     static native Object head(Object... given);
