@@ -3,6 +3,18 @@
 /* tools/header --write writes this file, from crates/ffi. */
 #include "proved.h"
 
+palqytun_told palqytun_describe(palqytun_vm *vm, uint8_t *out, size_t out_len)
+{
+    uint32_t status = PALQYTUN_DONE;
+    out = lend_room(&status, out, out_len);
+    palqytun_held *held = handle_take(&status, vm, A_VM);
+    if (status != PALQYTUN_DONE)
+        return (palqytun_told){.status = status};
+    palqytun_told made = proved_describe(held, out, out_len);
+    handle_give(held);
+    return made;
+}
+
 palqytun_frame_row palqytun_frame_read(const uint8_t *frame, size_t frame_len)
 {
     uint32_t status = PALQYTUN_DONE;

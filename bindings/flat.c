@@ -98,6 +98,14 @@ uint32_t palqytun_flat_last_command_index(palqytun_vm *vm, palqytun_replied *ret
     return made.status;
 }
 
+uint32_t palqytun_flat_describe(palqytun_vm *vm, uint8_t *out, size_t out_len, palqytun_told *returned)
+{
+    palqytun_told made = palqytun_describe(vm, out, out_len);
+    if (returned != NULL)
+        *returned = made;
+    return made.status;
+}
+
 uint32_t palqytun_flat_report_error(palqytun_vm *vm, const palqytun_error *error, const palqytun_command *related, palqytun_replied *returned)
 {
     palqytun_replied made = palqytun_report_error(vm, error, related);

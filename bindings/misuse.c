@@ -111,6 +111,7 @@ static void handles(void)
         gets(bad[i].what, palqytun_lend_output(it, &lent), wanted);
         gets(bad[i].what, palqytun_part(it, 0, out, sizeof out).status, wanted);
         gets(bad[i].what, palqytun_next_retry(it).status, wanted);
+        gets(bad[i].what, palqytun_describe(it, out, sizeof out).status, wanted);
         gets(bad[i].what, palqytun_sleep(it, bytes("n"), 1).status, wanted);
         gets(bad[i].what, palqytun_make(it, (palqytun_optional){0}, NULL).status, wanted);
         gets(bad[i].what, palqytun_close(it), wanted);
@@ -231,6 +232,8 @@ static void values(void)
     gets("a deep tree that isn't one", palqytun_await_tree(vm, nodes, deep).status, PALQYTUN_BAD_TREE);
     free(nodes);
     gets("no error", palqytun_next_retry(vm).status, PALQYTUN_NO_PART);
+    gets("a line at NULL", palqytun_describe(vm, NULL, 1).status, PALQYTUN_BAD_POINTER);
+    gets("no room for a line", palqytun_describe(vm, NULL, 0).status, PALQYTUN_NO_ROOM);
     gets("a part far behind", palqytun_part(vm, SIZE_MAX, NULL, 0).status, PALQYTUN_NO_PART);
     palqytun_close(vm);
 
@@ -409,6 +412,11 @@ static uint32_t do_part(void)
     uint8_t out[64];
     return palqytun_part(shared, 0, out, sizeof out).status;
 }
+static uint32_t do_describe(void)
+{
+    uint8_t out[64];
+    return palqytun_describe(shared, out, sizeof out).status;
+}
 static uint32_t do_feed(void) { return palqytun_feed(shared, NULL, 0); }
 static uint32_t do_take_output(void)
 {
@@ -488,7 +496,7 @@ static uint32_t (*const calls[])(void) = {do_state, do_completed, do_line, do_an
     do_ephemeral_state_get, do_take_ephemeral, do_call, do_call_with_deadline, do_send, do_cancel_invocation, do_attach, do_get_output, do_awakeable,
     do_complete_awakeable, do_complete_signal, do_get_promise, do_peek_promise, do_complete_promise, do_run, do_propose, do_propose_retryable,
     do_write_output, do_end, do_journal_entry, do_journal_arrive, do_journal_store, do_journal_frame, do_journal_effect, do_journal_effect_part,
-    do_journal_answer, do_lend_output, do_next_retry};
+    do_journal_answer, do_lend_output, do_next_retry, do_describe};
 enum { FEW = 16, CALLS = sizeof calls / sizeof *calls, MOST_THREADS = 8 };
 
 typedef struct {

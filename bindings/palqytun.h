@@ -497,6 +497,12 @@ palqytun_replied palqytun_output(palqytun_vm *vm);
 palqytun_replied palqytun_state(palqytun_vm *vm);
 palqytun_replied palqytun_last_command_index(palqytun_vm *vm);
 
+/* Writes the VM in a line for a log to the front of out, and returns how long it is: its version, the invocation's id once Start has come, its
+   state, and the index of its last command, the Input being 0, as in "V7 abc Processing, last command 0" and "V8 WaitingPreFlight, no command".
+   It has no line end, and no 0 after it, and no program is to read it. PALQYTUN_NO_ROOM: len is the length that it needs. PALQYTUN_NO_MEMORY: nothing
+   was written. */
+palqytun_told palqytun_describe(palqytun_vm *vm, uint8_t *out, size_t out_len);
+
 /* The handler failed by an error of its own, which fails the VM; one that has failed keeps its first error. */
 palqytun_replied palqytun_report_error(palqytun_vm *vm, const palqytun_error *error, const palqytun_command *related);
 

@@ -24,6 +24,7 @@ uint32_t palqytun_flat_close_input(palqytun_vm *vm, palqytun_replied *returned);
 uint32_t palqytun_flat_output(palqytun_vm *vm, palqytun_replied *returned);
 uint32_t palqytun_flat_state(palqytun_vm *vm, palqytun_replied *returned);
 uint32_t palqytun_flat_last_command_index(palqytun_vm *vm, palqytun_replied *returned);
+uint32_t palqytun_flat_describe(palqytun_vm *vm, uint8_t *out, size_t out_len, palqytun_told *returned);
 uint32_t palqytun_flat_report_error(palqytun_vm *vm, const palqytun_error *error, const palqytun_command *related, palqytun_replied *returned);
 uint32_t palqytun_flat_input(palqytun_vm *vm, palqytun_replied *returned);
 uint32_t palqytun_flat_await(palqytun_vm *vm, uint32_t handle, palqytun_replied *returned);

@@ -5,6 +5,7 @@
 
 #include "handles.h"
 
+palqytun_told proved_describe(palqytun_held *vm, uint8_t *out, size_t out_len);
 palqytun_frame_row proved_frame_read(const uint8_t *frame, size_t frame_len);
 palqytun_told proved_frame_part(const uint8_t *frame, size_t frame_len, size_t at, uint8_t *out, size_t out_len);
 palqytun_told proved_value_frame(const uint8_t *value, size_t value_len, uint8_t *out, size_t out_len);

@@ -77,6 +77,17 @@ static int show_retry(palqytun_vm *vm)
     return 0;
 }
 
+/* Prints the VM as a log has it. */
+static int describe(palqytun_vm *vm)
+{
+    uint8_t line[64];
+    palqytun_told told = palqytun_describe(vm, line, sizeof line);
+    if (told.status != PALQYTUN_DONE)
+        return failed(told.status);
+    printf("%-20s %.*s\n", "describe", (int)told.len, (const char *)line);
+    return 0;
+}
+
 /* Makes a VM, and feeds it the journal. */
 static int begin(palqytun_vm *vm)
 {
@@ -90,10 +101,12 @@ static int begin(palqytun_vm *vm)
         return failed(status);
     options.replay = PALQYTUN_REPLAY_ENABLED;
     int ended = show(vm, "make", palqytun_make(vm, given("application/vnd.restate.invocation.v7"), &options));
+    if (ended == 0)
+        ended = describe(vm);
     if (ended != 0)
         return ended;
     status = palqytun_feed(vm, journal, sizeof journal);
-    return status == PALQYTUN_DONE ? 0 : failed(status);
+    return status == PALQYTUN_DONE ? describe(vm) : failed(status);
 }
 
 /* Calls another handler, and awaits whichever comes first: its result, or a sleep. */
@@ -257,6 +270,8 @@ static int finish(palqytun_vm *vm)
         ended = show(vm, "last_command_index", palqytun_last_command_index(vm));
     if (ended == 0)
         ended = show(vm, "state", palqytun_state(vm));
+    if (ended == 0)
+        ended = describe(vm);
     if (ended == 0)
         ended = show(vm, "is_ready", palqytun_is_ready(vm));
     if (ended == 0)

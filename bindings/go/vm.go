@@ -4,6 +4,7 @@ package palqytun
 import "C"
 
 import (
+	"fmt"
 	"log"
 	"runtime"
 	"sync"
@@ -112,6 +113,19 @@ func (vm *VM) TakeOutput() ([]byte, error) {
 	return written(func(out *C.uint8_t, most C.size_t, told *C.palqytun_told) {
 		C.pq_take_output(vm.handle, out, most, told)
 	})
+}
+
+// String is the VM in a line for a log.
+func (vm *VM) String() string {
+	vm.guard.Lock()
+	defer vm.guard.Unlock()
+	line, err := written(func(out *C.uint8_t, most C.size_t, told *C.palqytun_told) {
+		C.pq_describe(vm.handle, out, most, told)
+	})
+	if err != nil {
+		return fmt.Sprintf("VM(%v)", err)
+	}
+	return "VM(" + string(line) + ")"
 }
 
 // IsReadyToExecute says whether the handler may begin: all known entries were fed.

@@ -43,6 +43,9 @@ func TestWhatWasClosed(t *testing.T) {
 	vm := begun()
 	must(0, vm.Close())
 	must(0, vm.Close())
+	if fmt.Sprint(vm) != "VM(NoSession: the VM was closed)" {
+		t.Error(vm)
+	}
 	_, err := vm.SysSleep("", 1)
 	wants(t, err, StatusNoSession)
 	wants(t, vm.NotifyInput(nil), StatusNoSession)
@@ -54,6 +57,14 @@ func TestWhatWasClosed(t *testing.T) {
 	wants(t, journal.Keep(), StatusNoJournal)
 	if text := err.Error(); text != "NoSession: the VM was closed" {
 		t.Error(text)
+	}
+}
+
+func TestALineForALog(t *testing.T) {
+	vm := begun()
+	defer vm.Close()
+	if said := fmt.Sprint(vm); said != "VM(V7 abc Processing, last command 0)" {
+		t.Error(said)
 	}
 }
 

@@ -236,7 +236,7 @@ class Offers(unittest.TestCase):
 
     def test_a_line_for_a_log(self) -> None:
         vm = fed(start(2), input_frame())
-        self.assertEqual(vm.describe(), "V7 WaitingPreFlight, no command")
+        self.assertEqual(vm.describe(), "V7 abc WaitingPreFlight, no command")
         vm.notify_input(sleep_frame(1000, 1))
         vm.sys_input()
         self.assertEqual(vm.describe(), "V7 abc Replaying, last command 0")

@@ -104,6 +104,20 @@ class VM {
     return written(this.#addon.take_output(this.#session));
   }
 
+  /** The VM in a line for a log; or its status, once it was closed. */
+  toString() {
+    try {
+      return `VM(${written(this.#addon.describe(this.#session)).toString()})`;
+    } catch (error) {
+      if (error instanceof StatusError) return `VM(${error.message})`;
+      throw error;
+    }
+  }
+
+  [Symbol.for('nodejs.util.inspect.custom')]() {
+    return this.toString();
+  }
+
   isReadyToExecute() {
     return this.#one(this.#addon.is_ready(this.#session)) === 1;
   }

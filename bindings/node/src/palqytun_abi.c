@@ -28,6 +28,7 @@ static struct {
     uint32_t (*output)(void *, palqytun_replied *);
     uint32_t (*state)(void *, palqytun_replied *);
     uint32_t (*last_command_index)(void *, palqytun_replied *);
+    uint32_t (*describe)(void *, uint8_t *, size_t, palqytun_told *);
     uint32_t (*report_error)(void *, const palqytun_error *, const palqytun_command *, palqytun_replied *);
     uint32_t (*input)(void *, palqytun_replied *);
     uint32_t (*await)(void *, uint32_t, palqytun_replied *);
@@ -128,6 +129,8 @@ static bool loads(void *object, const char **lacks)
         is_whole = false, *lacks = "palqytun_flat_state";
     if ((*(void **)&it.last_command_index = dlsym(object, "palqytun_flat_last_command_index")) == NULL)
         is_whole = false, *lacks = "palqytun_flat_last_command_index";
+    if ((*(void **)&it.describe = dlsym(object, "palqytun_flat_describe")) == NULL)
+        is_whole = false, *lacks = "palqytun_flat_describe";
     if ((*(void **)&it.report_error = dlsym(object, "palqytun_flat_report_error")) == NULL)
         is_whole = false, *lacks = "palqytun_flat_report_error";
     if ((*(void **)&it.input = dlsym(object, "palqytun_flat_input")) == NULL)
@@ -383,6 +386,11 @@ uint32_t pq_state(uintptr_t vm, palqytun_replied *returned)
 uint32_t pq_last_command_index(uintptr_t vm, palqytun_replied *returned)
 {
     return it.last_command_index((void *)vm, returned);
+}
+
+uint32_t pq_describe(uintptr_t vm, uint8_t *out, size_t out_len, palqytun_told *returned)
+{
+    return it.describe((void *)vm, out, out_len, returned);
 }
 
 uint32_t pq_report_error(uintptr_t vm, const palqytun_error *error, const palqytun_command *related, palqytun_replied *returned)

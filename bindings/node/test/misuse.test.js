@@ -3,6 +3,7 @@
 
 const assert = require('node:assert');
 const { test } = require('node:test');
+const { inspect } = require('node:util');
 const { Worker } = require('node:worker_threads');
 const palqytun = require('..');
 const { CANCEL_HANDLE, Closed, Code, Journal, JournalMismatch, StatusError, Suspended, VM, VMError, allCompleted, contentType, firstCompleted, frames } = palqytun;
@@ -12,8 +13,10 @@ const status = (name) => (error) => error instanceof StatusError && error.status
 
 test('what was closed', () => {
   const vm = begun();
+  assert.strictEqual(inspect(vm), 'VM(V7 abc Processing, last command 0)');
   vm.close();
   vm.close();
+  assert.strictEqual(`${vm}`, 'VM(NO_SESSION: the VM was closed)');
   assert.throws(() => vm.sysSleep(1), { status: 'NO_SESSION', message: 'NO_SESSION: the VM was closed' });
   assert.throws(() => vm.notifyInput(Buffer.of(1)), status('NO_SESSION'));
   assert.throws(() => vm.takeOutput(), status('NO_SESSION'));

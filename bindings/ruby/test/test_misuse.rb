@@ -10,7 +10,9 @@ class TestMisuse < Minitest::Test
 
   def test_what_was_closed
     vm = begun
+    assert_equal "#<Palqytun::VM V7 abc Processing, last command 0>", vm.inspect
     2.times { vm.close }
+    assert_equal "#<Palqytun::VM :no_session>", vm.inspect
     refused(StatusError, "no_session: the VM was closed") { vm.sys_sleep(1) }
     status(:no_session) { vm.notify_input("x") }
     status(:no_session) { vm.take_output }

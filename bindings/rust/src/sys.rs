@@ -862,6 +862,7 @@ functions! {
     output = "palqytun_output\0": (Handle) -> Replied;
     state = "palqytun_state\0": (Handle) -> Replied;
     last_command_index = "palqytun_last_command_index\0": (Handle) -> Replied;
+    describe = "palqytun_describe\0": (Handle, *mut u8, usize) -> Told;
     report_error = "palqytun_report_error\0": (Handle, *const Error, *const Command) -> Replied;
     input = "palqytun_input\0": (Handle) -> Replied;
     r#await = "palqytun_await\0": (Handle, u32) -> Replied;

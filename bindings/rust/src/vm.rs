@@ -12,7 +12,7 @@ use crate::values::{
 };
 use std::cell::Cell;
 use std::marker::PhantomData;
-use std::{ptr, slice};
+use std::{fmt, ptr, slice};
 
 /// One VM, for one attempt of an invocation. Dropping it frees its memory.
 ///
@@ -37,7 +37,6 @@ use std::{ptr, slice};
 ///
 /// Each method fails by [`Error::Vm`] if the VM refuses the call, and by [`Error::Status`] or [`Error::Argument`] if the call can't be made; then
 /// nothing was done.
-#[derive(Debug)]
 pub struct Vm {
     library: &'static Library,
     handle: Handle,
@@ -519,6 +518,18 @@ impl Vm {
 
     fn pairs(&self, first: usize, rows: usize) -> Result<Vec<(String, String)>> {
         (0..rows).map(|row| Ok((self.text(first + 2 * row)?, self.text(first + 2 * row + 1)?))).collect()
+    }
+}
+
+/// The VM in a line for a log.
+impl fmt::Debug for Vm {
+    fn fmt(&self, f: &mut fmt::Formatter<'_>) -> fmt::Result {
+        let (describe, handle) = (self.library.functions.describe, self.handle);
+        // SAFETY: the room is valid for its length.
+        match written(|at, len| unsafe { describe(handle, at, len) }) {
+            Ok(line) => write!(f, "Vm({})", utf8(line)),
+            Err(why) => write!(f, "Vm({})", why),
+        }
     }
 }
 

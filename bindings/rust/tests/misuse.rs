@@ -20,6 +20,7 @@ const LATER: HandlerError<'_> = HandlerError {
 #[test]
 fn a_vm_goes_from_thread_to_thread() {
     let mut vm = begun();
+    assert_eq!(format!("{:?}", vm), "Vm(V7 abc Processing, last command 0)");
     let vm = thread::spawn(move || {
         vm.sys_sleep("", 1000).unwrap();
         vm

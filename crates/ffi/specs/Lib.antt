@@ -1,2 +1,3 @@
+pub mod Describing
 pub mod Script
 pub mod Texts

@@ -386,6 +386,7 @@ FUNCTIONS: dict[str, tuple[list[Any], Any]] = {
     "output": ([ctypes.c_void_p], Replied),
     "state": ([ctypes.c_void_p], Replied),
     "last_command_index": ([ctypes.c_void_p], Replied),
+    "describe": ([ctypes.c_void_p, ctypes.c_char_p, ctypes.c_size_t], Told),
     "report_error": ([ctypes.c_void_p, ctypes.POINTER(Error), ctypes.POINTER(Command)], Replied),
     "input": ([ctypes.c_void_p], Replied),
     "await": ([ctypes.c_void_p, ctypes.c_uint32], Replied),

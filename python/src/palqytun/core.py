@@ -218,7 +218,7 @@ class VM:
             raise MemoryError("no memory for a VM")
         self._session = session
         self._parts = Parts(self._calls["part"], session)
-        self._is_begun, self._invocation_id = False, ""
+        self._is_begun = False
         self._handed_in: int | None = None  # the code of the error that was handed in, if the VM has failed by it
         self.version = f"V{self._made(self._calls['make'](self._session, asked, words)).first}"
 
@@ -263,10 +263,10 @@ class VM:
     def _note(self, word: str, answer: str) -> None:
         """Notes what a line that begins with this word has done to the VM."""
         if word == "vm":
-            self._is_begun, self._invocation_id, self._handed_in = False, "", None
+            self._is_begun, self._handed_in = False, None
             self.version = answer[3:] if answer.startswith("ok ") else ""
         elif word == "sys_input" and answer.startswith("ok "):
-            self._is_begun, self._invocation_id = True, _answers.input_of(answer).invocation_id
+            self._is_begun = True
 
     def _written(self, name: str) -> bytes:
         """What a call writes."""
@@ -404,17 +404,15 @@ class VM:
         return self._written("take_output")
 
     def describe(self) -> str:
-        """The VM in a line for a log: its version, the invocation's id once `sys_input` has returned it, its state, and the index of its last
-        command, the Input being 0.
+        """The VM in a line for a log: its version, the invocation's id once Start has come, its state, and the index of its last command, the Input
+        being 0.
 
         >>> vm.describe()
         'V7 abc Processing, last command 0'
         >>> VM("application/vnd.restate.invocation.v8").describe()
         'V8 WaitingPreFlight, no command'
         """
-        index = self.last_command_index()
-        name = f" {self._invocation_id}" if self._invocation_id else ""
-        return f"{self.version}{name} {self.state()}, " + ("no command" if index < 0 else f"last command {index}")
+        return self._written("describe").decode()
 
     def is_ready_to_execute(self) -> bool:
         """Whether the handler may begin: all known entries were fed.
@@ -474,7 +472,7 @@ class VM:
         replied: Replied = self._calls["input"](self._session)
         self._check_made(replied, is_first=True)
         found = input_of(replied, self._parts)
-        self._is_begun, self._invocation_id = True, found.invocation_id
+        self._is_begun = True
         return found
 
     def sys_sleep(self, wake_up_time: int, *, name: str = "", now: int | None = None) -> int:

@@ -209,6 +209,18 @@ CALL(last_command_index)
     return give_replied(&lent, &returned);
 }
 
+CALL(describe)
+{
+    BEGIN(1);
+    uintptr_t vm = read_handle(&lent, ARG(0));
+    struct out out = {0};
+    do
+        if (is_read(&lent))
+            pq_describe(vm, out_at(&out), out_len(&out), &out.told);
+    while (is_short(&out));
+    return give_bytes(&lent, &out);
+}
+
 CALL(report_error)
 {
     BEGIN(3);
@@ -854,6 +866,7 @@ const struct made CALLS[] = {
     MAKES(output)
     MAKES(state)
     MAKES(last_command_index)
+    MAKES(describe)
     MAKES(report_error)
     MAKES(input)
     MAKES(await)

@@ -53,7 +53,11 @@ module Palqytun
       L.done(status) unless status == ABI::NO_SESSION
     end
 
-    def inspect = "#<#{self.class} of version #{@version}>"
+    # With the VM in a line for a log, or `:no_session` if it was closed.
+    def inspect
+      said = @guard.owned? ? @ext.pq_describe(@handle) : @guard.synchronize { @ext.pq_describe(@handle) }
+      "#<#{self.class} #{said.is_a?(String) ? L.text(said) : ABI::STATUSES.fetch(said).first.inspect}>"
+    end
 
     # ---- The attempt
 

@@ -361,6 +361,7 @@ uint32_t pq_close_input(uintptr_t vm, palqytun_replied *returned);
 uint32_t pq_output(uintptr_t vm, palqytun_replied *returned);
 uint32_t pq_state(uintptr_t vm, palqytun_replied *returned);
 uint32_t pq_last_command_index(uintptr_t vm, palqytun_replied *returned);
+uint32_t pq_describe(uintptr_t vm, uint8_t *out, size_t out_len, palqytun_told *returned);
 uint32_t pq_report_error(uintptr_t vm, const palqytun_error *error, const palqytun_command *related, palqytun_replied *returned);
 uint32_t pq_input(uintptr_t vm, palqytun_replied *returned);
 uint32_t pq_await(uintptr_t vm, uint32_t handle, palqytun_replied *returned);

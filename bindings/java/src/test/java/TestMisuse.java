@@ -14,8 +14,10 @@ public final class TestMisuse {
 
     private static void whatWasClosed() {
         VM vm = Common.begun();
+        Common.equal("V7 abc Processing, last command 0", vm.toString());
         vm.close();
         vm.close();
+        Common.equal("VM of version 7", vm.toString());
         Common.refused(StatusException.class, "NO_SESSION: the VM was closed", () -> vm.sysSleep(1));
         status(Status.NO_SESSION, () -> vm.notifyInput(EMPTY));
         status(Status.NO_SESSION, vm::takeOutput);

@@ -14,6 +14,7 @@ final class Calls {
     static native Object output(Object... given);
     static native Object state(Object... given);
     static native Object last_command_index(Object... given);
+    static native Object describe(Object... given);
     static native Object report_error(Object... given);
     static native Object input(Object... given);
     static native Object await(Object... given);

@@ -68,9 +68,14 @@ public final class VM implements AutoCloseable {
         handle.close();
     }
 
+    /** The VM in a line for a log; or its version, once it was closed. */
     @Override
-    public String toString() {
-        return "VM of version " + version;
+    public synchronized String toString() {
+        try {
+            return new String(Library.written(Calls.describe(at())), StandardCharsets.UTF_8);
+        } catch (StatusException closed) {
+            return "VM of version " + version;
+        }
     }
 
     // ---- The attempt
