@@ -33,7 +33,8 @@ extern "C" {
 #endif
 
 /* The number of this interface. It changes if a function, a struct or a number changes that was there before; one that is added is no
-   change. A caller that loads the library at run time compares it with palqytun_abi(). */
+   change. So no struct of this header grows under a number, and none begins with its size: what is added comes as another function, with a struct
+   of its own if it needs one. A caller that loads the library at run time compares the number with palqytun_abi(). */
 #define PALQYTUN_ABI 1
 
 /* How much stack a call takes at most, in bytes. */

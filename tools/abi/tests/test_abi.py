@@ -4,6 +4,7 @@ import re
 import subprocess
 import tempfile
 import unittest
+from dataclasses import replace
 from pathlib import Path
 
 from tools.abi import between, checks, naming, sources, text, words
@@ -113,6 +114,15 @@ class Changes(unittest.TestCase):
             changed = self.OLD.replace(old, new)
             self.assertEqual(text.broken(self.OLD, changed), lost)
             self.assertEqual(text.broken(self.OLD, changed.replace("abi 1", "abi 2")), [])
+
+
+    def test_no_struct_of_the_header_grows(self) -> None:
+        header = read_header(TOP / HEADER)
+        before = text.text_of(header)
+        for name, fields in header.structs.items():
+            with self.subTest(struct=name):
+                longer = replace(header, structs={**header.structs, name: [*fields, ("uint32_t", "more")]})
+                self.assertEqual(text.broken(before, text.text_of(longer)), [f"struct {name} {len(fields)} uint32_t more"])
 
 
 class History(unittest.TestCase):
