@@ -292,7 +292,7 @@ typedef struct {
     /* A PALQYTUN_RELATED_TO_. */
     uint32_t kind;
     uint32_t index;
-    /* What the next one is, or that of the index: a PALQYTUN_COMMAND_. */
+    /* What the next one is, or that of the index: a PALQYTUN_COMMAND_. An error's reply has the type of its message in place of this. */
     uint32_t type;
     palqytun_optional name;
 } palqytun_command;
