@@ -10,6 +10,9 @@ typedef struct {
     PyObject_HEAD
     uintptr_t vm;
     PyObject *session;
+    /* What was fed, to say in what a call differs from a recorded one: a list until the handler begins, then a tuple. NULL once nothing is
+       replayed any more. */
+    PyObject *fed;
 } vm_object;
 
 /* A method: its parameters, of which so many may be given by place, and so many have to be given; and the method in Python. */
@@ -165,29 +168,35 @@ static PyObject *passed_on(PyObject *self, const char *method, const palqytun_re
     return result;
 }
 
-/* Raises what a reply says that isn't done. */
-static PyObject *refused(PyObject *self, const palqytun_replied *it)
+/* Raises what a reply says that isn't done. It is told with the call, which may be made again on another VM. */
+static PyObject *refused(const struct call *call, const palqytun_replied *it)
 {
-    PyObject *result = passed_on(self, "_check_made", it);
+    PyObject *replied = replied_of(it), *args = replied ? placed(call) : NULL, *names = args ? named(call) : NULL;
+    PyObject *check = names ? PyUnicode_FromString("_check_method") : NULL;
+    PyObject *result = check ? PyObject_CallMethodObjArgs(call->self, check, replied, call->method->behind, args, names, NULL) : NULL;
     if (result != NULL)
         PyErr_Format(PyExc_SystemError, "the status %u raised nothing", (unsigned)it->status);
     Py_XDECREF(result);
+    Py_XDECREF(check);
+    Py_XDECREF(names);
+    Py_XDECREF(args);
+    Py_XDECREF(replied);
     return NULL;
 }
 
-static PyObject *first_of(PyObject *self, const palqytun_replied *it)
+static PyObject *first_of(const struct call *call, const palqytun_replied *it)
 {
-    return it->status == PALQYTUN_DONE ? PyLong_FromUnsignedLong(it->first) : refused(self, it);
+    return it->status == PALQYTUN_DONE ? PyLong_FromUnsignedLong(it->first) : refused(call, it);
 }
 
-static PyObject *flag_of(PyObject *self, const palqytun_replied *it)
+static PyObject *flag_of(const struct call *call, const palqytun_replied *it)
 {
-    return it->status == PALQYTUN_DONE ? PyBool_FromLong(it->first == 1) : refused(self, it);
+    return it->status == PALQYTUN_DONE ? PyBool_FromLong(it->first == 1) : refused(call, it);
 }
 
-static PyObject *none_of(PyObject *self, const palqytun_replied *it)
+static PyObject *none_of(const struct call *call, const palqytun_replied *it)
 {
-    return it->status == PALQYTUN_DONE ? Py_NewRef(Py_None) : refused(self, it);
+    return it->status == PALQYTUN_DONE ? Py_NewRef(Py_None) : refused(call, it);
 }
 
 /* The first part of a reply, which has so many bytes. */
@@ -225,7 +234,7 @@ static PyObject *state(GIVEN)
     BEGIN_METHOD(state);
     OTHERWISE_LEAVE(true);
     pq_state(vm, &replied);
-    return replied.status == PALQYTUN_DONE ? Py_XNewRef(PyTuple_GetItem(states, replied.first)) : refused(self, &replied);
+    return replied.status == PALQYTUN_DONE ? Py_XNewRef(PyTuple_GetItem(states, replied.first)) : refused(&call, &replied);
 }
 
 static struct method is_ready_method = {"is_ready_to_execute", 0, 0, 0, {NULL}, {NULL}, NULL};
@@ -234,7 +243,7 @@ static PyObject *is_ready(GIVEN)
     BEGIN_METHOD(is_ready);
     OTHERWISE_LEAVE(true);
     pq_is_ready(vm, &replied);
-    return flag_of(self, &replied);
+    return flag_of(&call, &replied);
 }
 
 static struct method last_command_index_method = {"last_command_index", 0, 0, 0, {NULL}, {NULL}, NULL};
@@ -244,7 +253,7 @@ static PyObject *last_command_index(GIVEN)
     OTHERWISE_LEAVE(true);
     pq_last_command_index(vm, &replied);
     if (replied.status != PALQYTUN_DONE)
-        return refused(self, &replied);
+        return refused(&call, &replied);
     return replied.kind == PALQYTUN_INDEX ? PyLong_FromUnsignedLongLong(replied.number) : PyLong_FromLong(-1);
 }
 
@@ -255,7 +264,10 @@ static PyObject *notify_input(GIVEN)
     palqytun_bytes data;
     OTHERWISE_LEAVE(is_bytes(given[0], &data));
     UNLOCKED(data.len, replied.status = pq_feed(vm, data.at, data.len));
-    return none_of(self, &replied);
+    PyObject *fed = ((vm_object *)self)->fed;
+    if (replied.status == PALQYTUN_DONE && fed != NULL && PyList_Check(fed) && PyList_Append(fed, given[0]) != 0)
+        return NULL;
+    return none_of(&call, &replied);
 }
 
 static struct method take_output_method = {"take_output", 0, 0, 0, {NULL}, {NULL}, NULL};
@@ -270,9 +282,11 @@ static PyObject *take_output(GIVEN)
     while (is_short(&out));
     bool has_no_memory = out.told.status == PALQYTUN_NO_ROOM; /* for as many bytes, which is raised */
     PyObject *output = out.told.status == PALQYTUN_DONE ? bytes_of(&out) : NULL;
+    if (output != NULL && out.told.len > 0)
+        Py_CLEAR(((vm_object *)self)->fed);
     replied.status = out.told.status;
     Py_XDECREF(out.more);
-    return has_no_memory || replied.status == PALQYTUN_DONE ? output : refused(self, &replied);
+    return has_no_memory || replied.status == PALQYTUN_DONE ? output : refused(&call, &replied);
 }
 
 static struct method is_completed_method = {"is_completed", 1, 1, 1, {"handle"}, {NULL}, NULL};
@@ -282,7 +296,7 @@ static PyObject *is_completed(GIVEN)
     uint32_t handle;
     OTHERWISE_LEAVE(is_handle(given[0], &handle));
     pq_is_completed(vm, handle, &replied);
-    return flag_of(self, &replied);
+    return flag_of(&call, &replied);
 }
 
 static struct method do_await_method = {"do_await", 1, 1, 1, {"future"}, {NULL}, NULL};
@@ -293,11 +307,13 @@ static PyObject *do_await(GIVEN)
     OTHERWISE_LEAVE(is_handle(given[0], &handle));
     pq_await(vm, handle, &replied);
     if (replied.status != PALQYTUN_DONE)
-        return refused(self, &replied);
+        return refused(&call, &replied);
     if (replied.kind == PALQYTUN_AWAKE)
         Py_RETURN_TRUE;
-    if (replied.kind == PALQYTUN_WAITING)
+    if (replied.kind == PALQYTUN_WAITING) {
+        Py_CLEAR(((vm_object *)self)->fed);
         return Py_XNewRef(PyTuple_GetItem(waits, 2 * (replied.first == 1) + (replied.second == 1)));
+    }
     return passed_on(self, "_awaited", &replied);
 }
 
@@ -309,7 +325,7 @@ static PyObject *take_notification(GIVEN)
     OTHERWISE_LEAVE(is_handle(given[0], &handle));
     pq_take(vm, handle, &replied);
     if (replied.status != PALQYTUN_DONE)
-        return refused(self, &replied);
+        return refused(&call, &replied);
     switch (replied.kind) {
     case PALQYTUN_NOTHING:
         Py_RETURN_NONE;
@@ -330,7 +346,7 @@ static PyObject *sys_sleep(GIVEN)
     palqytun_bytes name;
     OTHERWISE_LEAVE(is_number(given[0], &time) && given[1] != Py_None && is_name(given[1], &name) && (given[2] == NULL || given[2] == Py_None));
     pq_sleep(vm, name.at, name.len, time, &replied);
-    return first_of(self, &replied);
+    return first_of(&call, &replied);
 }
 
 static struct method sys_state_get_method = {"sys_state_get", 3, 1, 1, {"key", "name", "unstable"}, {NULL}, NULL};
@@ -341,7 +357,7 @@ static PyObject *sys_state_get(GIVEN)
     bool unstable;
     OTHERWISE_LEAVE(is_text(given[0], &key) && is_name(given[1], &name) && is_flag(given[2], &unstable));
     pq_state_get(vm, key.at, key.len, name.at, name.len, &replied);
-    return first_of(self, &replied);
+    return first_of(&call, &replied);
 }
 
 static struct method sys_state_set_method = {"sys_state_set", 4, 2, 2, {"key", "value", "name", "unstable"}, {NULL}, NULL};
@@ -352,7 +368,7 @@ static PyObject *sys_state_set(GIVEN)
     bool unstable;
     OTHERWISE_LEAVE(is_text(given[0], &key) && is_bytes(given[1], &value) && is_name(given[2], &name) && is_flag(given[3], &unstable));
     UNLOCKED(value.len, pq_state_set(vm, key.at, key.len, value.at, value.len, name.at, name.len, unstable, &replied));
-    return none_of(self, &replied);
+    return none_of(&call, &replied);
 }
 
 static struct method sys_state_clear_method = {"sys_state_clear", 2, 1, 1, {"key", "name"}, {NULL}, NULL};
@@ -362,7 +378,7 @@ static PyObject *sys_state_clear(GIVEN)
     palqytun_bytes key, name;
     OTHERWISE_LEAVE(is_text(given[0], &key) && is_name(given[1], &name));
     pq_state_clear(vm, key.at, key.len, name.at, name.len, &replied);
-    return none_of(self, &replied);
+    return none_of(&call, &replied);
 }
 
 /* Which handler is called: its names, and from this parameter on its keys, its limits and no headers. */
@@ -385,7 +401,7 @@ static PyObject *sys_call(GIVEN)
     bool unstable;
     OTHERWISE_LEAVE(is_target(given, 3, &target) && is_bytes(given[2], &value) && is_name(given[8], &name) && is_flag(given[9], &unstable));
     UNLOCKED(value.len, pq_call(vm, &target, value.at, value.len, name.at, name.len, unstable, &replied));
-    return replied.status == PALQYTUN_DONE ? Py_BuildValue("II", replied.first, replied.second) : refused(self, &replied);
+    return replied.status == PALQYTUN_DONE ? Py_BuildValue("II", replied.first, replied.second) : refused(&call, &replied);
 }
 
 static struct method sys_run_method = {"sys_run", 1, 1, 1, {"name"}, {NULL}, NULL};
@@ -396,7 +412,7 @@ static PyObject *sys_run(GIVEN)
     OTHERWISE_LEAVE(is_text(given[0], &name));
     pq_run(vm, name.at, name.len, &replied);
     if (replied.status != PALQYTUN_DONE)
-        return refused(self, &replied);
+        return refused(&call, &replied);
     return PyObject_CallFunction(run_class, "IO", replied.first, replied.second == 1 ? Py_True : Py_False);
 }
 
@@ -408,7 +424,7 @@ static PyObject *propose(GIVEN)
     palqytun_value value = {0};
     OTHERWISE_LEAVE(is_handle(given[0], &handle) && is_bytes(given[1], &value.bytes) && given[2] == NULL);
     UNLOCKED(value.bytes.len, pq_propose(vm, handle, &value, NULL, &replied));
-    return none_of(self, &replied);
+    return none_of(&call, &replied);
 }
 
 static struct method sys_write_output_method = {"sys_write_output", 2, 1, 1, {"value", "unstable"}, {NULL}, NULL};
@@ -419,7 +435,7 @@ static PyObject *sys_write_output(GIVEN)
     bool unstable;
     OTHERWISE_LEAVE(is_bytes(given[0], &value.bytes) && is_flag(given[1], &unstable));
     UNLOCKED(value.bytes.len, pq_write_output(vm, &value, unstable, &replied));
-    return none_of(self, &replied);
+    return none_of(&call, &replied);
 }
 
 static struct method sys_end_method = {"sys_end", 0, 0, 0, {NULL}, {NULL}, NULL};
@@ -428,7 +444,7 @@ static PyObject *sys_end(GIVEN)
     BEGIN_METHOD(sys_end);
     OTHERWISE_LEAVE(true);
     pq_end(vm, &replied);
-    return none_of(self, &replied);
+    return none_of(&call, &replied);
 }
 
 static const struct {
@@ -461,6 +477,7 @@ static void let_go(PyObject *self)
 {
     PyTypeObject *type = Py_TYPE(self);
     Py_XDECREF(((vm_object *)self)->session);
+    Py_XDECREF(((vm_object *)self)->fed);
     ((freefunc)PyType_GetSlot(type, Py_tp_free))(self);
     Py_DECREF(type);
 }
@@ -489,6 +506,23 @@ static int set_session(PyObject *self, PyObject *session, void *more)
     return 0;
 }
 
+static PyObject *fed_of(PyObject *self, void *more)
+{
+    PyObject *fed = ((vm_object *)self)->fed;
+    (void)more;
+    return Py_NewRef(fed == NULL ? Py_None : fed);
+}
+
+static int set_fed(PyObject *self, PyObject *fed, void *more)
+{
+    vm_object *it = (vm_object *)self;
+    PyObject *before = it->fed;
+    (void)more;
+    it->fed = fed == NULL || fed == Py_None ? NULL : Py_NewRef(fed);
+    Py_XDECREF(before);
+    return 0;
+}
+
 /* Takes the method in Python of this name, and its text, which Python keeps. */
 static bool take_behind(struct method *it, PyObject *behind, PyObject *texts, const char **text)
 {
@@ -509,7 +543,7 @@ static bool take_behind(struct method *it, PyObject *behind, PyObject *texts, co
 PyObject *make_vm_class(PyObject *module, PyObject *args)
 {
     static PyMethodDef methods[METHODS_LEN + 1];
-    static PyGetSetDef attributes[] = {{"_session", session_of, set_session, NULL, NULL}, {0}};
+    static PyGetSetDef attributes[] = {{"_session", session_of, set_session, NULL, NULL}, {"_fed", fed_of, set_fed, NULL, NULL}, {0}};
     PyObject *behind, *texts;
     (void)module;
     if (!PyArg_ParseTuple(args, "O!O!OO!O!O", &PyDict_Type, &behind, &PyDict_Type, &texts, &void_result, &PyTuple_Type, &waits, &PyTuple_Type, &states,

@@ -14,11 +14,15 @@ from typing import Any
 
 from attempt import cancel_signal, completion, frame, input_frame, sleep_frame, start, text
 from palqytun import (
+    LAST_COMMAND,
     VM,
     Cancelled,
+    CommandType,
     Failure,
     IdempotencyId,
     InvocationId,
+    NextCommand,
+    Related,
     Retryable,
     VMError,
     WorkflowId,
@@ -110,9 +114,9 @@ CALLS: dict[str, list[Call]] = {
     "notify_input": variants(VM.notify_input, *((it,) for it in FRAMES)),
     "notify_input_closed": variants(VM.notify_input_closed, ()),
     "notify_error": [
-        *variants(VM.notify_error, (500, "no"), stacktrace="at 1", behaviour="pause", delay=5, related="last"),
-        *variants(VM.notify_error, (570, "no"), behaviour="fail", related='next(Sleep "n")'),
-        *variants(VM.notify_error, (418, ""), related="at(3 GetState -)"),
+        *variants(VM.notify_error, (500, "no"), stacktrace="at 1", behaviour="pause", delay=5, related=LAST_COMMAND),
+        *variants(VM.notify_error, (570, "no"), behaviour="fail", related=NextCommand(CommandType.SLEEP, "n")),
+        *variants(VM.notify_error, (418, ""), related=Related(3, CommandType.GET_STATE)),
     ],
     "take_output": variants(VM.take_output, ()),
     "is_ready_to_execute": variants(VM.is_ready_to_execute, ()),

@@ -5,7 +5,7 @@ import unittest
 import palqytun
 from attempt import CONTENT_TYPE, begun
 from methods import parameters
-from palqytun import VM, AnyOf, BadLine, Failure, IdempotencyId, InvocationId, Retryable, WorkflowId
+from palqytun import LAST_COMMAND, VM, AnyOf, BadLine, CommandType, Failure, IdempotencyId, InvocationId, NextCommand, Related, Retryable, WorkflowId
 from palqytun import first_completed, retry_exponential, retry_fixed
 from palqytun._words import text
 from palqytun.frames import Message, difference, frame_of
@@ -26,6 +26,7 @@ SAMPLES = {
     "int | Future | AnyOf": 17,
     "Iterable[tuple[str, str]]": (),
     "RetryPolicy": retry_fixed(5),
+    "RelatedCommand | None": LAST_COMMAND,
     "Target": InvocationId("inv_1"),
 }
 
@@ -87,7 +88,10 @@ WRONG_TYPES = [
     (lambda vm: vm.notify_input("x"), "data must be bytes, not str"),
     (lambda vm: vm.notify_error("x", "no"), "code must be an int, not str"),
     (lambda vm: vm.notify_error(500, b"no"), "message must be a str, not bytes"),
-    (lambda vm: vm.notify_error(500, "no", related=1), "related must be a str, not int"),
+    (lambda vm: vm.notify_error(500, "no", related="last"), "related must be a Related, a NextCommand or LAST_COMMAND, not str"),
+    (lambda vm: vm.notify_error(500, "no", related=NextCommand("Sleep")), "related.type must be a CommandType, not str"),
+    (lambda vm: vm.notify_error(500, "no", related=Related(1, CommandType.RUN, None)), "related.name must be a str, not NoneType"),
+    (lambda vm: vm.notify_error(500, "no", related=Related("1", CommandType.RUN)), "related.index must be an int, not str"),
     (lambda vm: retry_fixed("x"), "interval must be an int, not str"),
     (lambda vm: retry_fixed(5, pause=1), "pause must be a bool, not int"),
     (lambda vm: retry_exponential(5, 1.5), "numerator must be an int, not float"),
@@ -112,7 +116,7 @@ WRONG_VALUES = [
     (lambda vm: vm.sys_write_output(Failure(65536, "no")), "value.code must be from 0 to 65535, not 65536"),
     (lambda vm: vm.notify_error(65536, "no"), "code must be from 0 to 65535, not 65536"),
     (lambda vm: vm.notify_error(500, "no", behaviour="retry delay=5"), "behaviour must be one of retry, pause, fail, not 'retry delay=5'"),
-    (lambda vm: vm.notify_error(500, "no", related="last delay=5"), "related must be last, next(TYPE NAME) or at(N TYPE NAME), not 'last delay=5'"),
+    (lambda vm: vm.notify_error(500, "no", related=Related(2**32, CommandType.RUN)), "related.index must be from 0 to 4294967295, not 4294967296"),
     (lambda vm: vm.propose_run_completion(17, Retryable(500, "no", behaviour="x")), "behaviour must be one of retry, pause, fail, not 'x'"),
     (lambda vm: retry_fixed(5, attempts=2**32), "attempts must be from 0 to 4294967295, not 4294967296"),
     (lambda vm: retry_exponential(5, 3, 0), "denominator must be from 1 to 4294967295, not 0"),
@@ -280,12 +284,6 @@ class Arguments(unittest.TestCase):
             with self.assertRaises(palqytun.VMError) as raised:
                 vm.propose_run_completion(17, Retryable(500, HALF, stacktrace=HALF))
             self.assertEqual(raised.exception.text, "file-\\udcff")
-
-    def test_the_command_of_an_error(self) -> None:
-        for related in ("last", "next(Sleep -)", 'next(Run "a) \\" delay=5")', 'at(3 GetState "k")'):
-            with self.subTest(related), begun() as vm:
-                vm.notify_error(500, "no", related=related)
-                self.assertEqual(vm.state(), "Closed")
 
 
 if __name__ == "__main__":

@@ -5,11 +5,11 @@ import pathlib
 import unittest
 
 from attempt import begun
-from palqytun import Journal, _answers, _arguments, _library, _words, core, effects, errors, frames, futures, journals, retries, values
+from palqytun import Journal, _answers, _arguments, _library, _words, commands, core, differences, effects, errors, frames, futures, journals, retries, values
 
 import palqytun
 
-MODULES = [palqytun, core, effects, errors, frames, futures, journals, retries, values, _answers, _arguments, _library, _words]
+MODULES = [palqytun, commands, core, differences, effects, errors, frames, futures, journals, retries, values, _answers, _arguments, _library, _words]
 README = pathlib.Path(__file__).resolve().parents[1] / "README.md"
 
 

@@ -15,12 +15,14 @@ import unittest
 from collections.abc import Callable
 
 import palqytun
+from palqytun import _abi
 from attempt import begun, cancel_signal, completion, fed, input_frame, sleep_frame, start
 from palqytun import VM, VOID, Awakeable, BadLine, Cancelled, Closed, ExecuteRun, Failure, Fault, Future, Input, InvocationId, Journal, JournalFault
-from palqytun import Code, JournalMismatch, Related, Retryable, RetryPolicy, Run, Suspended, VMError, Waiting, WorkflowId, all_completed, first_completed
-from palqytun import CANCEL_HANDLE, SUPPORTED_VERSIONS, content_type, retry_fixed, retry_never, seed_of_start
+from palqytun import Code, CommandType, Difference, JournalMismatch, NextCommand, Related, RelatedCommand, Retryable, RetryPolicy, Run
+from palqytun import Suspended, VMError, Waiting, WorkflowId, all_completed, first_completed
+from palqytun import CANCEL_HANDLE, LAST_COMMAND, SUPPORTED_VERSIONS, content_type, retry_fixed, retry_never, seed_of_start
 from palqytun.errors import BadFrame, error_of
-from palqytun.frames import frame_of
+from palqytun.frames import frame_of, line_of, split
 from palqytun.frames import input_frame as input_with
 
 PROJECT = pathlib.Path(__file__).resolve().parents[1]
@@ -32,12 +34,12 @@ class Errors(unittest.TestCase):
     def test_an_error_has_all_its_fields(self) -> None:
         vm = begun()
         vm.sys_run("seat")
-        vm.notify_error(418, "no tea", stacktrace="at the pot", related="last")
+        vm.notify_error(418, "no tea", stacktrace="at the pot", related=LAST_COMMAND)
         with self.assertRaises(VMError) as raised:
             vm.sys_sleep(1000)
         error = raised.exception
         self.assertEqual((error.code, error.text, error.hint), (418, "no tea", None))
-        self.assertEqual((error.stacktrace, error.related), ("at the pot", Related(1, 26, "seat")))
+        self.assertEqual((error.stacktrace, error.related), ("at the pot", Related(1, CommandType.RUN, "seat")))
 
     def test_an_error_without_them(self) -> None:
         vm = begun()
@@ -51,7 +53,45 @@ class Errors(unittest.TestCase):
         vm.sys_input()
         with self.assertRaises(JournalMismatch) as raised:
             vm.sys_run("charge")
-        self.assertEqual(raised.exception.related, Related(1, 26, "charge"))
+        self.assertEqual(raised.exception.related, Related(1, CommandType.RUN, "charge"))
+
+
+class RelatedCommands(unittest.TestCase):
+    """The command of an error that a handler hands in, as the error's frame has it."""
+
+    def related(self, command: RelatedCommand | None) -> str:
+        vm = begun()
+        vm.sys_run("seat")
+        vm.notify_error(418, "no tea", related=command)
+        frame = [it for _, it in split(vm.take_output())][-1]
+        return line_of(frame).removeprefix('Error code=418 message="no tea" behaviour=Retry').strip()
+
+    def test_each_kind(self) -> None:
+        for command, wanted in (
+            (None, ""),
+            (LAST_COMMAND, 'index=1 type=26 name="seat"'),
+            (NextCommand(CommandType.SLEEP), "index=2 type=18"),
+            (NextCommand(CommandType.ONE_WAY_CALL, 'a) " delay=5'), r'index=2 type=20 name="a) \x22 delay=5"'),
+            (Related(7, CommandType.GET_STATE, "k"), 'index=7 type=12 name="k"'),
+            (Related(7, CommandType.CANCEL_INVOCATION), "index=7 type=22"),
+        ):
+            with self.subTest(command=command):
+                self.assertEqual(self.related(command), wanted)
+
+    def test_that_of_another_error(self) -> None:
+        vm = fed(start(2), input_frame(), sleep_frame(1000, 1))
+        vm.sys_input()
+        with self.assertRaises(JournalMismatch) as raised:
+            vm.sys_run("charge")
+        self.assertEqual(self.related(raised.exception.related), 'index=1 type=26 name="charge"')
+
+    def test_each_type_has_its_number(self) -> None:
+        numbers = {name.removeprefix("COMMAND_"): it for name, it in vars(_abi).items() if name.startswith("COMMAND_")}
+        self.assertEqual({it.name: at for at, it in enumerate(CommandType)}, numbers)
+
+    def test_as_texts(self) -> None:
+        texts = [str(it) for it in (Related(3, CommandType.RUN, "seat"), Related(0, CommandType.INPUT), NextCommand(CommandType.CALL), LAST_COMMAND)]
+        self.assertEqual(texts, ['command 3, Run "seat"', "command 0, Input", "the next command, Call", "the last command"])
 
 
 class OwnErrors(unittest.TestCase):
@@ -152,7 +192,7 @@ class OwnErrors(unittest.TestCase):
     def test_that_was_not_taken(self) -> None:
         """An error that the VM didn't fail by, with the code and the text of the VM's own that comes later."""
         vm = begun()
-        self.assertRaises(BadLine, vm.notify_error, 598, "ClosedError", related="none")
+        self.assertRaises(BadLine, vm.notify_error, 598, "ClosedError", related=Related(-1, CommandType.RUN))
         run = vm.sys_run("charge")
         vm.do_await(run.handle)
         vm.propose_run_completion(run.handle, Retryable(598, "ClosedError"), policy=retry_never())
@@ -269,7 +309,7 @@ class ReplayChecks(unittest.TestCase):
         self.assertEqual(self.replaying().state(), "Replaying")
 
     def test_it_differs_by_another_command_or_another_field(self) -> None:
-        self.assertEqual(self.refusal(lambda vm: vm.sys_state_set("k", b"v")).related, Related(1, 15, ""))
+        self.assertEqual(self.refusal(lambda vm: vm.sys_state_set("k", b"v")).related, Related(1, CommandType.SET_STATE))
         self.assertEqual(self.refusal(lambda vm: vm.sys_state_set("k", b"v")).code, 570)
         self.assertEqual(self.refusal(lambda vm: vm.sys_sleep(1000, name="nap")).code, 570)
 
@@ -286,8 +326,9 @@ class ReplayChecks(unittest.TestCase):
 
 
 ERRORS = [
-    VMError(500, "no seat", "call sys_input first", "at x", Related(3, 26, "seat")),
+    VMError(500, "no seat", "call sys_input first", "at x", Related(3, CommandType.RUN, "seat")),
     error_of(570, "CommandMismatchError"),
+    error_of(570, "CommandMismatchError", difference=Difference(4, "parameter", '"Ada"', None, CommandType.CALL, CommandType.CALL)),
     error_of(598, "ClosedError"),
     Suspended(599, "SUSPENDED"),
     JournalFault(Fault.NO_SUCH_ID),
@@ -297,8 +338,9 @@ ERRORS = [
 ]
 VALUES = [
     *(VOID, Failure(409, "cancelled", (("a", "b"),)), InvocationId("inv"), WorkflowId("w", "k"), Awakeable(17, "sign_1"), Run(17, True)),
-    *(ExecuteRun(17), Waiting(True, False), Retryable(500, "later"), Related(1, 26, ""), Input("inv", 1, "k", (("a", "b"),), b"x")),
+    *(ExecuteRun(17), Waiting(True, False), Retryable(500, "later"), Related(1, CommandType.RUN), Input("inv", 1, "k", (("a", "b"),), b"x")),
     *(first_completed(17, all_completed(18, 19)), retry_fixed(500, attempts=3), retry_never(), Fault.BAD_OUTPUT),
+    *(CommandType.RUN, NextCommand(CommandType.SLEEP, "nap"), LAST_COMMAND),
 ]
 
 
@@ -317,7 +359,8 @@ class Copies(unittest.TestCase):
         for value in VALUES:
             for made in self.copies(value):
                 self.assertEqual((type(made), made, str(made)), (type(value), value, str(value)))
-        self.assertIs(pickle.loads(pickle.dumps(VOID)), VOID)
+        for only in (VOID, LAST_COMMAND):
+            self.assertIs(pickle.loads(pickle.dumps(only)), only)
 
     def test_a_tree_that_was_awaited(self) -> None:
         vm = begun()

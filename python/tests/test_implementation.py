@@ -196,7 +196,7 @@ class Memory(unittest.TestCase):
 
     def test_refusals(self) -> None:
         vm = begun()
-        vm.notify_error(418, "no tea", stacktrace="at the pot", related="last")
+        vm.notify_error(418, "no tea", stacktrace="at the pot", related=palqytun.LAST_COMMAND)
 
         def call(at: int) -> None:
             with self.assertRaises(palqytun.VMError):

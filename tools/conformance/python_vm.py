@@ -7,7 +7,8 @@ from collections.abc import Callable
 from typing import Any
 
 import palqytun as core
-from palqytun import VM, Failure, Future, IdempotencyId, InvocationId, Retryable, RetryPolicy, Void, VMError, WorkflowId
+from palqytun import LAST_COMMAND, VM, CommandType, Failure, Future, IdempotencyId, InvocationId, NextCommand, Related, RelatedCommand, Retryable
+from palqytun import RetryPolicy, Void, VMError, WorkflowId
 
 from .calls import Json
 from .suite import WANTS, Step, exact
@@ -93,6 +94,8 @@ def performed(vm: VM, step: Step) -> Step:
 
 def argument(call: str, name: str, value: Json) -> object:
     """An argument as the method takes it."""
+    if name == "related":
+        return related(value)
     if isinstance(value, str) and name not in NUMBERS - TEXTS.get(call, set()):
         return bytes.fromhex(value) if name in HEX else value
     if name == "future":
@@ -145,11 +148,12 @@ def target(it: dict[str, Any]) -> InvocationId | WorkflowId | IdempotencyId:
     return WorkflowId(**fields) if kind == "workflow" else IdempotencyId(**fields)
 
 
-def related(it: dict[str, Any]) -> str:
+def related(it: str | dict[str, Any]) -> RelatedCommand:
     """The command that an error relates to, as the method takes it."""
-    name = "-" if "name" not in it else '"' + it["name"].replace("\\", "\\\\").replace('"', '\\"') + '"'
-    index = f"{it['index']} " if it["kind"] == "at" else ""
-    return f"{it['kind']}({index}{it['type']} {name})"
+    if isinstance(it, str):
+        return LAST_COMMAND
+    type, name = CommandType(it["type"]), it.get("name", "")
+    return Related(it["index"], type, name) if it["kind"] == "at" else NextCommand(type, name)
 
 
 ARGUMENTS: dict[str, Callable[[dict[str, Any]], object]] = {
@@ -157,7 +161,6 @@ ARGUMENTS: dict[str, Callable[[dict[str, Any]], object]] = {
     "result": result,
     "policy": policy,
     "target": target,
-    "related": related,
 }
 
 

@@ -5,40 +5,17 @@ Each function is given an argument's name and its value, checks it as `_words` d
 
 from __future__ import annotations
 
-import re
 from collections.abc import Iterable
 from typing import get_args
 
+from palqytun import _abi
 from palqytun._abi import Command, Error, Invocation, Options, Pairs, Policy, Target, Value
-from palqytun._lines import unescaped
-from palqytun._words import CODE, HANDLE, SEED, both, encoded, integer, octets, one_of, spoken, utf8
-from palqytun.errors import BadLine
+from palqytun._words import CODE, HANDLE, SEED, both, integer, octets, one_of, spoken, utf8
+from palqytun.commands import CommandType, LastCommand, NextCommand, Related, RelatedCommand
 from palqytun.retries import RetryPolicy
 from palqytun.values import Behaviour, Data, Failure, IdempotencyId, InvocationId, Retryable, WorkflowId
 
-# A command as `related` has it: `last`, `next(TYPE NAME)` or `at(N TYPE NAME)`; the name is a text in quotes or `-`.
-_RELATED = re.compile(r'last|(?:(next)\(|at\(([0-9]+) )([A-Za-z]+) (?:-|"((?:[^"\\\n\r]|\\.)*)")\)')
-_TYPES = (
-    "Input",
-    "Output",
-    "GetState",
-    "GetStateKeys",
-    "SetState",
-    "ClearState",
-    "ClearAllState",
-    "GetPromise",
-    "PeekPromise",
-    "CompletePromise",
-    "Sleep",
-    "Call",
-    "OneWayCall",
-    "SendSignal",
-    "Run",
-    "AttachInvocation",
-    "GetInvocationOutput",
-    "CompleteAwakeable",
-    "CancelInvocation",
-)
+_TYPES = list(CommandType)
 
 
 def lent_name(value: object) -> bytes:
@@ -105,21 +82,25 @@ def lent_retryable(name: str, result: Retryable) -> Error:
     return lent_error(f"{name}.", result.code, result.message, result.stacktrace, result.behaviour, result.delay)
 
 
-def lent_command(command: str | None) -> Command:
+def lent_command(command: RelatedCommand | None) -> Command:
     """The command that an error relates to."""
     if command is None:
-        return Command(0, 0, 0, None)
-    if not isinstance(command, str):
-        raise TypeError(f"related must be a str, not {type(command).__name__}")
-    found = _RELATED.fullmatch(command)
-    if not found or (found[3] is not None and found[3] not in _TYPES):
-        raise BadLine(f"related must be last, next(TYPE NAME) or at(N TYPE NAME), not {command[:100]!r}")
-    encoded("related", command)
-    if found[3] is None:
-        return Command(1, 0, 0, None)
-    name = None if found[4] is None else unescaped(found[4])
-    index = 0 if found[2] is None else integer("related", int(found[2]), HANDLE)
-    return Command(2 if found[1] else 3, index, _TYPES.index(found[3]), name)
+        return Command(_abi.RELATED_TO_NONE, 0, 0, None)
+    if isinstance(command, LastCommand):
+        return Command(_abi.RELATED_TO_LAST, 0, 0, None)
+    if isinstance(command, NextCommand):
+        return Command(_abi.RELATED_TO_NEXT, 0, *_lent_kind(command))
+    if isinstance(command, Related):
+        index = integer("related.index", command.index, HANDLE)
+        return Command(_abi.RELATED_TO_SPECIFIC, index, *_lent_kind(command))
+    raise TypeError(f"related must be a Related, a NextCommand or LAST_COMMAND, not {type(command).__name__}")
+
+
+def _lent_kind(command: Related | NextCommand) -> tuple[int, bytes | None]:
+    """What a command is, and its name, if it has one."""
+    if not isinstance(command.type, CommandType):
+        raise TypeError(f"related.type must be a CommandType, not {type(command.type).__name__}")
+    return _TYPES.index(command.type), utf8("related.name", command.name) or None
 
 
 def lent_invocation(target: InvocationId | WorkflowId | IdempotencyId) -> Invocation:

@@ -9,7 +9,7 @@ from typing import Any
 from palqytun import _abi, _library
 from palqytun._abi import Replied
 from palqytun._answers import pairs
-from palqytun.errors import Related
+from palqytun.commands import Related, type_of
 from palqytun.values import VOID, EphemeralReady, ExecuteRun, Failure, Input, InvocationId, Result, Waiting
 
 
@@ -51,7 +51,8 @@ class Parts:
 
 def related_of(replied: Replied, parts: Parts) -> Related | None:
     """The command that an error relates to, if it names one."""
-    return Related(replied.second, replied.third, parts.text(2)) if replied.first else None
+    type = type_of(replied.third)
+    return Related(replied.second, type, parts.text(2)) if replied.first and type is not None else None
 
 
 WAITS = tuple(tuple(Waiting(input=bool(first), run=bool(second)) for second in (0, 1)) for first in (0, 1))

@@ -34,11 +34,11 @@ The shared object is in this package; `./bindings/build` puts it there. It is lo
 
 from __future__ import annotations
 
-from collections.abc import Iterable
+from collections.abc import Callable, Iterable
 from types import TracebackType
-from typing import Literal, Never, Self, cast
+from typing import Any, Literal, Never, Self, cast
 
-from palqytun import _abi, _answers, _library
+from palqytun import _abi, _answers, _differing, _library
 from palqytun._arguments import (
     lent_command,
     lent_content_type,
@@ -56,7 +56,9 @@ from palqytun._hastened import hastened
 from palqytun._lines import handed_in, word_of
 from palqytun._replies import Parts, awaited_of, input_of, related_of, result_of
 from palqytun._words import HANDLE, integer, octets, truth, utf8
-from palqytun.errors import BadFrame, BadLine, Cancelled, Closed, Code, Fault, JournalFault, JournalMismatch, Related, Suspended, VMError, error_of
+from palqytun.commands import LAST_COMMAND, CommandType, LastCommand, NextCommand, Related, RelatedCommand
+from palqytun.differences import Difference
+from palqytun.errors import BadFrame, BadLine, Cancelled, Closed, Code, Fault, JournalFault, JournalMismatch, Suspended, VMError, error_of
 from palqytun.futures import (
     AnyOf,
     Future,
@@ -93,6 +95,7 @@ from palqytun.values import (
 
 __all__ = [
     "CANCEL_HANDLE",
+    "LAST_COMMAND",
     "SUPPORTED_VERSIONS",
     "VM",
     "VOID",
@@ -104,7 +107,9 @@ __all__ = [
     "Cancelled",
     "Closed",
     "Code",
+    "CommandType",
     "Data",
+    "Difference",
     "EphemeralReady",
     "ExecuteRun",
     "Failure",
@@ -116,7 +121,10 @@ __all__ = [
     "Journal",
     "JournalFault",
     "JournalMismatch",
+    "LastCommand",
+    "NextCommand",
     "Related",
+    "RelatedCommand",
     "ResponseHead",
     "Result",
     "Retryable",
@@ -220,6 +228,10 @@ class VM:
         self._parts = Parts(self._calls["part"], session)
         self._is_begun = False
         self._handed_in: int | None = None  # the code of the error that was handed in, if the VM has failed by it
+        self._is_refused, self._difference = False, cast(Difference | None, None)  # whether a call was refused by an error, and in what it differs
+        self._ignores_payloads = checks == "off"
+        # What was fed, to say in what a call differs: a list until the handler begins, then a tuple. None once nothing is replayed any more.
+        self._fed: list[bytes] | tuple[bytes, ...] | None = []
         self.version = f"V{self._made(self._calls['make'](self._session, asked, words)).first}"
 
     def __enter__(self) -> Self:
@@ -234,6 +246,7 @@ class VM:
         status = self._calls["close"](self._session)
         if status not in (_abi.DONE, _abi.NO_SESSION):
             self._check(status)
+        self._fed = None
 
     def _check(self, status: int) -> None:
         if status == _abi.NO_MEMORY:
@@ -261,12 +274,21 @@ class VM:
         return answer
 
     def _note(self, word: str, answer: str) -> None:
-        """Notes what a line that begins with this word has done to the VM."""
+        """Notes what a line that begins with this word has done to the VM. What a line feeds isn't kept."""
         if word == "vm":
             self._is_begun, self._handed_in = False, None
+            self._is_refused, self._difference = False, None
             self.version = answer[3:] if answer.startswith("ok ") else ""
         elif word == "sys_input" and answer.startswith("ok "):
-            self._is_begun = True
+            self._begins()
+        if word in ("vm", "input"):
+            self._fed = None
+        self._is_refused |= answer.startswith("err ")
+
+    def _begins(self) -> None:
+        """Notes that the handler begins: all recorded commands were fed."""
+        self._is_begun = True
+        self._fed = None if self._fed is None else tuple(self._fed)
 
     def _written(self, name: str) -> bytes:
         """What a call writes."""
@@ -294,27 +316,49 @@ class VM:
             raise RuntimeError("there is no VM")
         raise BadLine(f"the VM can't read this line: {line[:200]}")
 
-    def _copying(self, name: str, payload: object) -> _library.Call:
-        """A call that copies a payload. If that is large, other threads run meanwhile."""
+    def _ask(self, name: str, *given: object, payload: object = None) -> Replied:
+        """Makes a typed call, and gives its reply; an error is raised. If the payload is large, other threads run meanwhile."""
         is_large = isinstance(payload, (bytes, bytearray, memoryview)) and len(payload) > _library.KEPT
-        return (self._library.released if is_large else self._calls)[name]
+        replied: Replied = (self._library.released if is_large else self._calls)[name](self._session, *given)
+        if replied.status:
+            is_unstable = bool(given) and given[-1] is True  # no other argument is a bool
+            self._check_made(replied, lambda vm: vm._calls[name](vm._session, *given), is_unstable)
+        return replied
 
     def _made(self, replied: Replied) -> Replied:
-        """What a typed call returns; an error is raised."""
+        """What a call returns that the handler doesn't make; an error is raised."""
         if replied.status:
             self._check_made(replied)
         return replied
 
-    def _check_made(self, replied: Replied, is_first: bool = False) -> None:
+    def _check_method(self, replied: Replied, method: Callable[..., object], args: tuple[VM, ...], named: dict[str, Any]) -> None:
+        """Raises what a method in C was refused by: this one in Python has the same arguments, and this VM before them."""
+        self._check_made(replied, lambda vm: method(vm, *args[1:], **named), named.get("unstable") is True)
+
+    def _check_made(
+        self, replied: Replied, call: Callable[[VM], object] | None = None, is_unstable: bool = False, *, is_first: bool = False
+    ) -> None:
         """Raises an error that a typed call returned."""
         if replied.status == _abi.REFUSED:
             text, stack = self._parts.text(0), self._parts.text(1)
-            raise self._refusal(replied.number, text, is_first, stack, related_of(replied, self._parts))
+            related = related_of(replied, self._parts)
+            if not self._is_refused and _has_failed(replied):
+                self._is_refused = True
+                self._difference = self._differs(text, related, call, is_unstable)
+            raise self._refusal(replied.number, text, is_first, stack, related)
         self._check(replied.status)
         if replied.status == _abi.BAD_TEXT:
             raise BadLine("a text is no UTF-8")
         if replied.status:
             raise RuntimeError(f"the call was not made: status {replied.status}")
+
+    def _differs(self, text: str, related: Related | None, call: Callable[[VM], object] | None, is_unstable: bool) -> Difference | None:
+        """In what the call that has failed the VM isn't as it is recorded, if this error is the VM's own and says so."""
+        if self._fed is None or self._handed_in is not None:
+            return None
+        refused = _differing.Refused(text, related, self._fed, self.last_command_index)
+        again = None if call is None else _differing.Call(call, self._ignores_payloads or is_unstable)
+        return _differing.found(refused, again, lambda: VM(f"application/vnd.restate.invocation.{self.version.lower()}", awaiting="never"))
 
     def _hand_in(self, error: _abi.Error, name: str, *given: object) -> None:
         """Makes a call that hands in this error. If the VM fails by it, each later call is refused by it; a VM that had failed keeps its first error.
@@ -336,7 +380,7 @@ class VM:
             return VMError(code, said, None, stacktrace, related)
         if code == Code.INTERNAL and not said:
             return MemoryError("the VM found no memory")
-        return error_of(code, said, self._hint(code, said, is_first), stacktrace, related)
+        return error_of(code, said, self._hint(code, said, is_first), stacktrace, related, self._difference)
 
     def _hint(self, code: int, said: str, is_first: bool) -> str | None:
         """What to call instead of a call that came before the handler's first, or of a first one that came twice; or what is allowed."""
@@ -357,7 +401,7 @@ class VM:
         >>> vm.get_response_head().headers
         (('content-type', 'application/vnd.restate.invocation.v7'),)
         """
-        replied = self._made(self._calls["head"](self._session))
+        replied = self._ask("head")
         return ResponseHead(replied.number, self.version, self._parts.pairs(0, replied.rows))
 
     def notify_input(self, data: Data) -> None:
@@ -365,10 +409,12 @@ class VM:
         data = octets("data", data)
         calls = self._library.released if len(data) > _library.KEPT else self._calls
         self._check(calls["feed"](self._session, data))
+        if isinstance(self._fed, list):
+            self._fed.append(data)
 
     def notify_input_closed(self) -> None:
         """No more bytes come."""
-        self._made(self._calls["close_input"](self._session))
+        self._ask("close_input")
 
     def notify_error(
         self,
@@ -378,16 +424,17 @@ class VM:
         stacktrace: str | None = None,
         behaviour: Behaviour = "retry",
         delay: int | None = None,
-        related: str | None = None,
+        related: RelatedCommand | None = None,
     ) -> None:
         """The handler failed by an error of its own, which fails the VM; one that has failed keeps its first error.
 
         Each later call raises it as a `VMError`, with any code: only the VM's own errors are a `Suspended`, a `MemoryError` or another class.
 
-        `code` is below 65536. `behaviour` is `retry`, `pause` or `fail`, `delay` that of the next try in ms, and `related` the command of the
-        error as a line has it, as `last`. What is no UTF-8 in `message` and `stacktrace` is written as `\\udcff`.
+        `code` is below 65536. `behaviour` is `retry`, `pause` or `fail`, and `delay` that of the next try in ms. `related` is the command of the
+        error: `LAST_COMMAND`, a `NextCommand`, or a `Related`, as an error has one. What is no UTF-8 in `message` and `stacktrace` is
+        written as `\\udcff`.
 
-        >>> vm.notify_error(418, "no tea", delay=500, related="last")
+        >>> vm.notify_error(418, "no tea", delay=500, related=LAST_COMMAND)
         >>> vm.sys_sleep(1000)
         Traceback (most recent call last):
         palqytun.errors.VMError: 418 no tea
@@ -401,7 +448,10 @@ class VM:
         >>> vm.take_output()
         b''
         """
-        return self._written("take_output")
+        output = self._written("take_output")
+        if output:
+            self._fed = None
+        return output
 
     def describe(self) -> str:
         """The VM in a line for a log: its version, the invocation's id once Start has come, its state, and the index of its last command, the Input
@@ -420,11 +470,11 @@ class VM:
         >>> vm.is_ready_to_execute()
         True
         """
-        return self._made(self._calls["is_ready"](self._session)).first == 1
+        return self._ask("is_ready").first == 1
 
     def is_completed(self, handle: int) -> bool:
         """Whether a take of the handle would return a value."""
-        return self._made(self._calls["is_completed"](self._session, integer("handle", handle, HANDLE))).first == 1
+        return self._ask("is_completed", integer("handle", handle, HANDLE)).first == 1
 
     def do_await(self, future: int | Future | AnyOf) -> Literal[True] | ExecuteRun | EphemeralReady | Waiting:
         """Whether the future, a handle, a `Future` or an `AnyOf`, is awake.
@@ -445,14 +495,15 @@ class VM:
         Waiting(input=True, run=True)
         """
         if isinstance(future, (Future, AnyOf)):
-            return self._awaited(self._made(self._calls["await_tree"](self._session, future.lent())))
-        return self._awaited(self._made(self._calls["await"](self._session, handle_of("future", future))))
+            return self._awaited(self._ask("await_tree", future.lent()))
+        return self._awaited(self._ask("await", handle_of("future", future)))
 
     def _awaited(self, replied: Replied) -> Literal[True] | ExecuteRun | EphemeralReady | Waiting:
         if replied.kind == _abi.AWAKE:
             return True
         if replied.kind == _abi.CANCELLED:
             raise Cancelled("the invocation was cancelled")
+        self._fed = None
         return awaited_of(replied)
 
     def take_notification(self, handle: int) -> Result | None:
@@ -462,7 +513,7 @@ class VM:
         >>> vm.take_notification(read), vm.take_notification(read)
         (VOID, None)
         """
-        return self._taken(self._made(self._calls["take"](self._session, integer("handle", handle, HANDLE))))
+        return self._taken(self._ask("take", integer("handle", handle, HANDLE)))
 
     def _taken(self, replied: Replied) -> Result | None:
         return result_of(replied, self._parts)
@@ -472,7 +523,7 @@ class VM:
         replied: Replied = self._calls["input"](self._session)
         self._check_made(replied, is_first=True)
         found = input_of(replied, self._parts)
-        self._is_begun = True
+        self._begins()
         return found
 
     def sys_sleep(self, wake_up_time: int, *, name: str = "", now: int | None = None) -> int:
@@ -488,7 +539,7 @@ class VM:
         called = utf8("name", name)
         if now is not None:
             integer("now", now)
-        return self._made(self._calls["sleep"](self._session, called, integer("wake_up_time", wake_up_time))).first
+        return self._ask("sleep", called, integer("wake_up_time", wake_up_time)).first
 
     def sys_state_get(self, key: str, *, name: str | None = None, unstable: bool = False) -> int:
         """Reads the value of a state key; returns a handle, whose result is `bytes` or `VOID`.
@@ -498,7 +549,7 @@ class VM:
         b'7'
         """
         truth("unstable", unstable)
-        return self._made(self._calls["state_get"](self._session, utf8("key", key), lent_name(name))).first
+        return self._ask("state_get", utf8("key", key), lent_name(name)).first
 
     def sys_state_get_keys(self, *, name: str | None = None) -> int:
         """Reads the keys that have a value; returns a handle, whose result is a list.
@@ -507,7 +558,7 @@ class VM:
         >>> vm.take_notification(vm.sys_state_get_keys())
         ['visits']
         """
-        return self._made(self._calls["state_get_keys"](self._session, lent_name(name))).first
+        return self._ask("state_get_keys", lent_name(name)).first
 
     def ephemeral_state_get(self, key: str) -> int:
         """Reads the value of a state key and leaves nothing of it in the journal, for what doesn't steer the handler; returns the read's id.
@@ -518,11 +569,11 @@ class VM:
         Traceback (most recent call last):
         palqytun.errors.VMError: 573 UNSUPPORTED_FEATURE: UnsupportedFeatureForNegotiatedVersion
         """
-        return self._made(self._calls["ephemeral_state_get"](self._session, utf8("key", key))).first
+        return self._ask("ephemeral_state_get", utf8("key", key)).first
 
     def take_ephemeral_notification(self, id: int) -> bytes | Void | None:
         """Takes the value of an ephemeral read: `bytes`, or `VOID` if the key has none; `None` if it isn't there."""
-        replied = self._made(self._calls["take_ephemeral"](self._session, integer("id", id, HANDLE)))
+        replied = self._ask("take_ephemeral", integer("id", id, HANDLE))
         return cast(bytes | Void | None, result_of(replied, self._parts))
 
     def sys_state_set(self, key: str, value: Data, *, name: str | None = None, unstable: bool = False) -> None:
@@ -533,15 +584,15 @@ class VM:
         TypeError: value must be bytes, not int
         """
         given = utf8("key", key), octets("value", value), lent_name(name), truth("unstable", unstable)
-        self._made(self._copying("state_set", value)(self._session, *given))
+        self._ask("state_set", *given, payload=value)
 
     def sys_state_clear(self, key: str, *, name: str | None = None) -> None:
         """Takes a state key's value away."""
-        self._made(self._calls["state_clear"](self._session, utf8("key", key), lent_name(name)))
+        self._ask("state_clear", utf8("key", key), lent_name(name))
 
     def sys_state_clear_all(self, *, name: str | None = None) -> None:
         """Takes each state key's value away."""
-        self._made(self._calls["state_clear_all"](self._session, lent_name(name)))
+        self._ask("state_clear_all", lent_name(name))
 
     def sys_call(
         self,
@@ -564,7 +615,7 @@ class VM:
         """
         target = lent_target(service, handler, key, idempotency_key, scope, limit_key, headers)
         given = octets("value", value), lent_name(name), truth("unstable", unstable)
-        replied = self._made(self._copying("call", value)(self._session, target, *given))
+        replied = self._ask("call", target, *given, payload=value)
         return replied.first, replied.second
 
     def sys_call_with_deadline(
@@ -591,7 +642,7 @@ class VM:
         """
         target = lent_target(service, handler, key, idempotency_key, scope, limit_key, headers)
         given = octets("value", value), integer("wake_up_time", wake_up_time), lent_name(name), truth("unstable", unstable)
-        replied = self._made(self._copying("call_with_deadline", value)(self._session, target, *given))
+        replied = self._ask("call_with_deadline", target, *given, payload=value)
         return replied.first, replied.second, replied.third
 
     def sys_send(
@@ -617,7 +668,7 @@ class VM:
         target = lent_target(service, handler, key, idempotency_key, scope, limit_key, headers)
         time = 0 if at is None else integer("at", at)
         given = octets("value", value), time, lent_name(name), truth("unstable", unstable)
-        return self._made(self._copying("send", value)(self._session, target, *given)).first
+        return self._ask("send", target, *given, payload=value).first
 
     def sys_awakeable(self) -> Awakeable:
         """Makes an awakeable.
@@ -625,21 +676,21 @@ class VM:
         >>> vm.sys_awakeable()
         Awakeable(handle=17, id='sign_1YWJjAAAAEQ')
         """
-        return Awakeable(self._made(self._calls["awakeable"](self._session)).first, self._parts.text(0))
+        return Awakeable(self._ask("awakeable").first, self._parts.text(0))
 
     def create_signal_handle(self, name: str) -> int:
         """A handle for the signal of this name."""
-        return self._made(self._calls["signal"](self._session, utf8("name", name))).first
+        return self._ask("signal", utf8("name", name)).first
 
     def sys_complete_awakeable(self, id: str, value: Data | Failure, *, unstable: bool = False) -> None:
         """Gives the awakeable of this id its result, bytes or a `Failure`."""
         given = utf8("id", id), lent_value("value", value), truth("unstable", unstable)
-        self._made(self._copying("complete_awakeable", value)(self._session, *given))
+        self._ask("complete_awakeable", *given, payload=value)
 
     def sys_complete_signal(self, invocation_id: str, name: str, value: Data | Failure) -> None:
         """Sends a named signal to another invocation."""
         given = utf8("invocation_id", invocation_id), utf8("name", name), lent_value("value", value)
-        self._made(self._copying("complete_signal", value)(self._session, *given))
+        self._ask("complete_signal", *given, payload=value)
 
     def sys_run(self, name: str) -> Run:
         """Calls a run, a side effect whose result is kept; an await says when to execute it.
@@ -651,7 +702,7 @@ class VM:
         ExecuteRun(handle=17)
         >>> vm.propose_run_completion(run.handle, b"paid")
         """
-        replied = self._made(self._calls["run"](self._session, utf8("name", name)))
+        replied = self._ask("run", utf8("name", name))
         return Run(replied.first, replied.second == 1)
 
     def propose_run_completion(self, handle: int, result: Data | Failure | Retryable, *, policy: RetryPolicy = retry_forever()) -> None:
@@ -670,24 +721,24 @@ class VM:
             after, error = integer("result.duration", result.duration), lent_retryable("result", result)
             self._hand_in(error, "propose_retryable", of, after, error, under)
         else:
-            self._made(self._copying("propose", result)(self._session, of, lent_value("result", result), under))
+            self._ask("propose", of, lent_value("result", result), under, payload=result)
 
     def sys_cancel_invocation(self, invocation_id: str) -> None:
         """Sends the built-in cancel signal to another invocation."""
-        self._made(self._calls["cancel_invocation"](self._session, utf8("invocation_id", invocation_id)))
+        self._ask("cancel_invocation", utf8("invocation_id", invocation_id))
 
     def sys_get_promise(self, key: str) -> int:
         """Awaits a promise of the workflow; returns the handle of its value."""
-        return self._made(self._calls["get_promise"](self._session, utf8("key", key))).first
+        return self._ask("get_promise", utf8("key", key)).first
 
     def sys_peek_promise(self, key: str) -> int:
         """Looks whether a promise of the workflow is completed; returns the handle of its value, or of `VOID`."""
-        return self._made(self._calls["peek_promise"](self._session, utf8("key", key))).first
+        return self._ask("peek_promise", utf8("key", key)).first
 
     def sys_complete_promise(self, key: str, value: Data | Failure, *, unstable: bool = False) -> int:
         """Completes a promise of the workflow; returns the handle of `VOID`, or of a `Failure` if it had been completed before."""
         given = utf8("key", key), lent_value("value", value), truth("unstable", unstable)
-        return self._made(self._copying("complete_promise", value)(self._session, *given)).first
+        return self._ask("complete_promise", *given, payload=value).first
 
     def sys_attach_invocation(self, target: Target) -> int:
         """Attaches to another invocation, an `InvocationId`, `WorkflowId` or `IdempotencyId`; returns the handle of its result.
@@ -695,15 +746,15 @@ class VM:
         >>> vm.sys_attach_invocation(WorkflowId("signup", "ada"))
         17
         """
-        return self._made(self._calls["attach"](self._session, lent_invocation(target))).first
+        return self._ask("attach", lent_invocation(target)).first
 
     def sys_get_invocation_output(self, target: Target) -> int:
         """Looks whether another invocation has an output; returns the handle of it, or of `VOID`."""
-        return self._made(self._calls["get_output"](self._session, lent_invocation(target))).first
+        return self._ask("get_output", lent_invocation(target)).first
 
     def sys_write_output(self, value: Data | Failure, *, unstable: bool = False) -> None:
         """The handler's result, bytes or a `Failure`."""
-        self._made(self._copying("write_output", value)(self._session, lent_value("value", value), truth("unstable", unstable)))
+        self._ask("write_output", lent_value("value", value), truth("unstable", unstable), payload=value)
 
     def sys_end(self) -> None:
         """The handler ends; its last call.
@@ -714,7 +765,7 @@ class VM:
         Traceback (most recent call last):
         palqytun.errors.Closed: 598 CLOSED: ClosedError
         """
-        self._made(self._calls["end"](self._session))
+        self._ask("end")
 
     def state(self) -> State:
         """`WaitingPreFlight`, `Replaying`, `Processing` or `Closed`.
@@ -722,7 +773,7 @@ class VM:
         >>> vm.state()
         'Processing'
         """
-        return _STATES[self._made(self._calls["state"](self._session)).first]
+        return _STATES[self._ask("state").first]
 
     def last_command_index(self) -> int:
         """The index of the last command; -1 before any.
@@ -730,5 +781,5 @@ class VM:
         >>> vm.last_command_index()
         0
         """
-        replied = self._made(self._calls["last_command_index"](self._session))
+        replied = self._ask("last_command_index")
         return replied.number if replied.kind == _abi.INDEX else -1

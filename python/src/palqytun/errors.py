@@ -4,12 +4,13 @@ from __future__ import annotations
 
 import enum
 import functools
-from dataclasses import dataclass
 
 from palqytun import _abi
+from palqytun.commands import NO_NAMES, Names, Related
+from palqytun.differences import Difference
 
 _ERRORS = ["BadFrame", "BadLine", "Cancelled", "Closed", "JournalFault", "JournalMismatch", "Suspended", "VMError"]
-__all__ = [*_ERRORS, "Code", "Fault", "Related", "error_of", "in_words"]
+__all__ = [*_ERRORS, "Code", "Difference", "Fault", "Related", "error_of", "in_words"]
 
 
 class Code(enum.IntEnum):
@@ -56,44 +57,59 @@ def in_words(code: int, text: str, is_own: bool = True) -> str:
     return f"{code} {text}" if name == text else f"{code} {name}: {text}"
 
 
-@dataclass(frozen=True)
-class Related:
-    """The command that an error relates to: its index in the journal, the Input being 0; the type of its message (docs/WIRE.md); and its name."""
-
-    index: int
-    type: int
-    name: str
-
-
 class VMError(Exception):
     """An error that the VM returned: its `code`, its `text`, its `stacktrace`, which is empty if there is none, and the command to which it is
     `related`, or `None`. The VM has failed, and returns the same from each later call. By lines of text only code and text are known.
 
-    `hint` says what to do in its place, if the call came out of order, or what is allowed; else it is `None`. `is_own` is whether the error is the
+    `difference` says in what the call isn't as the journal has it, if the error is about that; its text stands in the message. `hint` says what to do
+    in its place, if the call came out of order, or what is allowed. Each is `None` if there is none. `is_own` is whether the error is the
     VM's own, and none that was handed in. Only then its code is a `Code`, whose name stands in the message.
 
-    >>> VMError(500, "no seat", related=Related(3, 26, "seat")).related.name
-    'seat'
+    >>> from palqytun import CommandType
+    >>> error = VMError(500, "no seat", related=Related(3, CommandType.RUN, "seat"))
+    >>> str(error), str(error.related)
+    ('500 no seat', 'command 3, Run "seat"')
     """
 
     def __init__(
-        self, code: int, text: str, hint: str | None = None, stacktrace: str = "", related: Related | None = None, *, is_own: bool = False
+        self,
+        code: int,
+        text: str,
+        hint: str | None = None,
+        stacktrace: str = "",
+        related: Related | None = None,
+        *,
+        is_own: bool = False,
+        difference: Difference | None = None,
     ) -> None:
-        super().__init__(in_words(code, text, is_own) + (f" ({hint})" if hint else ""))
         self.code = code
         self.text = text
         self.hint = hint
         self.stacktrace = stacktrace
         self.related = related
         self.is_own = is_own
+        self.difference = difference
+        super().__init__(self.in_words())
+
+    def in_words(self, names: Names = NO_NAMES) -> str:
+        """The message, by an SDK's own names of commands.
+
+        >>> from palqytun import CommandType
+        >>> recorded = Difference(4, "parameter", '"Ada"', '"Bob"', CommandType.CALL, CommandType.CALL)
+        >>> print(error_of(570, "CommandMismatchError", difference=recorded).in_words({CommandType.CALL: "ctx.service_call"}))
+        570 JOURNAL_MISMATCH: CommandMismatchError: command 4, ctx.service_call, is recorded with parameter "Ada", and the call gives "Bob"
+        """
+        about = "" if self.difference is None else f": {self.difference.in_words(names)}"
+        return in_words(self.code, self.text, self.is_own) + about + (f" ({self.hint})" if self.hint else "")
 
     def __reduce__(self) -> tuple[object, ...]:
-        made = functools.partial(type(self), is_own=self.is_own)
+        made = functools.partial(type(self), is_own=self.is_own, difference=self.difference)
         return made, (self.code, self.text, self.hint, self.stacktrace, self.related)
 
 
 class JournalMismatch(VMError):
-    """The handler makes another call than the journal has recorded: its code has changed, or doesn't depend on its results alone."""
+    """The handler makes another call than the journal has recorded: its code has changed, or doesn't depend on its results alone. `difference` says
+    in what."""
 
 
 class Closed(VMError):
@@ -160,10 +176,17 @@ _CLASSES: dict[int, type[VMError]] = {
 }
 
 
-def error_of(code: int, text: str, hint: str | None = None, stacktrace: str = "", related: Related | None = None) -> VMError:
+def error_of(
+    code: int,
+    text: str,
+    hint: str | None = None,
+    stacktrace: str = "",
+    related: Related | None = None,
+    difference: Difference | None = None,
+) -> VMError:
     """The VM's own error of this code, by its class.
 
     >>> error_of(598, "ClosedError")
     Closed('598 CLOSED: ClosedError')
     """
-    return _CLASSES.get(code, VMError)(code, text, hint, stacktrace, related, is_own=True)
+    return _CLASSES.get(code, VMError)(code, text, hint, stacktrace, related, is_own=True, difference=difference)

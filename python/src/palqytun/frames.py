@@ -1,7 +1,7 @@
 """Frames beside a journal: each as its line (docs/FRAMES.md) and back, its result as a notification, whether a suspension is awake, and in which
 field two commands differ; and what a frame says as numbers and parts, without text.
 
-Nothing here knows how a frame is laid out: the core reads and writes them.
+The core reads and writes the bodies of frames. Only the head of one, its type and its length, is looked at here, to `split` a stream.
 
 >>> output = frame_of('Output result=value("Till")')
 >>> completed = completion(3, output)
@@ -14,7 +14,8 @@ Nothing here knows how a frame is laid out: the core reads and writes them.
 
 from __future__ import annotations
 
-from collections.abc import Iterable
+import struct
+from collections.abc import Iterable, Iterator
 
 from typing import cast
 
@@ -23,9 +24,10 @@ from palqytun._words import COUNT, integer, octets, truth, utf8
 from palqytun.errors import BadFrame, BadLine
 from palqytun.values import Data
 
-__all__ = ["Message", "completion", "difference", "frame_of", "input_frame", "is_awake", "line_of", "named_signal", "signal", "value_frame"]
+__all__ = ["Message", "completion", "difference", "frame_of", "input_frame", "is_awake", "line_of", "named_signal", "signal", "split", "value_frame"]
 
 _COMPLETION, _SIGNAL, _NAMED = range(3)
+_HEAD = struct.Struct(">HQ")
 
 
 class _NoPart(Exception):
@@ -48,6 +50,28 @@ def _written(name: str, *arguments: object) -> bytes:
     if not isinstance(written, bytes):
         _refuse(written)
     return cast(bytes, written)
+
+
+def split(stream: Data) -> Iterator[tuple[int, bytes]]:
+    """The frames of a stream, each with the type of its message, as an attempt's output has them. Bytes that are no whole frame are a `BadFrame`,
+    after the frames that stand before them.
+
+    >>> [(type, line_of(frame)) for type, frame in split(frame_of("End") + frame_of('ClearState key="k"'))]
+    [(4, 'End'), (16, 'ClearState key="k"')]
+    >>> list(split(b"x"))
+    Traceback (most recent call last):
+    palqytun.errors.BadFrame: the stream ends within the head of a frame
+    """
+    at = 0
+    while at < len(stream):
+        if len(stream) - at < _HEAD.size:
+            raise BadFrame("the stream ends within the head of a frame")
+        type, length = _HEAD.unpack_from(stream, at)
+        end = at + _HEAD.size + length
+        if end > len(stream):
+            raise BadFrame("the stream ends within a frame")
+        yield type, bytes(stream[at:end])
+        at = end
 
 
 def line_of(frame: Data) -> str:

@@ -1,8 +1,7 @@
 """Frames as typed values, and back: what a runtime reads and writes of them.
 
 The core writes and reads their bodies: it says what a frame is as numbers and parts (`palqytun.frames.Message`), and a payload never becomes
-text. Only the head of a frame, its type and its length, is looked at here, to cut a stream into frames and to see which of them ask something
-of the runtime. What is small is written by the lines of docs/FRAMES.md. A result is kept as a whole frame that has it, so storing and
+text. `split` cuts a stream into frames, each with its type, by which one sees which of them ask something of the runtime. What is small is written by the lines of docs/FRAMES.md. A result is kept as a whole frame that has it, so storing and
 delivering one never reads it.
 """
 
@@ -10,7 +9,6 @@ from __future__ import annotations
 
 import functools
 import json
-import struct
 from collections.abc import Callable, Iterable, Iterator
 from dataclasses import dataclass
 from typing import Any, NewType
@@ -18,6 +16,7 @@ from typing import Any, NewType
 from palqytun import frames as core
 from palqytun.errors import BadFrame
 from palqytun.frames import Message as Said
+from palqytun.frames import split as split
 
 Result = NewType("Result", bytes)
 """A frame that has a result: an output, a notification of any id, a proposal, or the completion of an awakeable, a signal or a promise."""
@@ -33,21 +32,6 @@ _STEPS = frozenset([_PROPOSAL, _AWAITING_ON, _EAGER_STATE, _EAGER_KEYS, _RUN])
 _COMMANDS = range(_INPUT, _OUTPUT + 1)
 CHANGES = range(15, 18)
 """The types of the commands that change the state."""
-_HEAD = struct.Struct(">HQ")
-
-
-def split(stream: bytes) -> Iterator[tuple[int, bytes]]:
-    """The frames of a stream, each with its type. An attempt's output is whole frames."""
-    at = 0
-    while at < len(stream):
-        if len(stream) - at < _HEAD.size:
-            raise ValueError("the stream ends within the head of a frame")
-        kind, length = _HEAD.unpack_from(stream, at)
-        end = at + _HEAD.size + length
-        if end > len(stream):
-            raise ValueError("the stream ends within a frame")
-        yield kind, stream[at:end]
-        at = end
 
 
 # ---- writing
