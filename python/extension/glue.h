@@ -104,16 +104,22 @@ PyObject *give_row(struct lent *lent, const char *const names[], const uint64_t 
 /* A reply as an object. */
 PyObject *replied_of(const palqytun_replied *it);
 
-/* A handle of a VM or of a journal, which ends with its garbage. */
+/* A handle of a VM or of a journal, which ends with its garbage. The output that a VM has lent last is its buffer: while somebody reads that, the VM
+   is neither closed nor lends another one. */
 typedef struct {
     PyObject_HEAD
     uintptr_t it;
     uint32_t (*close)(uintptr_t);
+    palqytun_bytes lent;
+    bool is_unread; /* there was no memory for a view of it */
+    size_t readers;
 } handle;
 extern PyTypeObject *handle_type;
 
 /* The class below palqytun.core.VM, once: of the methods in Python behind its own and their texts, by their names, and of what calls return. */
 PyObject *make_vm_class(PyObject *module, PyObject *args);
+/* Raises that the output which was lent is still read. */
+PyObject *refuse_readers(void);
 /* The names of its methods. */
 PyObject *method_names(void);
 

@@ -13,9 +13,25 @@ static void let_go(PyObject *self)
     Py_DECREF(type);
 }
 
+static int begin_reading(PyObject *self, Py_buffer *view, int flags)
+{
+    handle *it = (handle *)self;
+    void *at = it->lent.len > 0 ? (void *)it->lent.at : "";
+    if (PyBuffer_FillInfo(view, self, at, (Py_ssize_t)it->lent.len, 1, flags) != 0)
+        return -1;
+    it->readers++;
+    return 0;
+}
+
+static void end_reading(PyObject *self, Py_buffer *view)
+{
+    (void)view;
+    ((handle *)self)->readers--;
+}
+
 static bool make_handle_type(void)
 {
-    PyType_Slot slots[] = {{Py_tp_dealloc, (void *)let_go}, {0, NULL}};
+    PyType_Slot slots[] = {{Py_tp_dealloc, (void *)let_go}, {Py_bf_getbuffer, (void *)begin_reading}, {Py_bf_releasebuffer, (void *)end_reading}, {0, NULL}};
     unsigned int flags = Py_TPFLAGS_DEFAULT | Py_TPFLAGS_DISALLOW_INSTANTIATION;
     PyType_Spec spec = {"palqytun._c.Handle", sizeof(handle), 0, flags, slots};
     handle_type = (PyTypeObject *)PyType_FromSpec(&spec);
@@ -44,9 +60,14 @@ static PyObject *closed(PyObject *arg, uint32_t (*close)(uintptr_t))
 {
     if (!PyObject_TypeCheck(arg, handle_type))
         return PyErr_Format(PyExc_TypeError, "a handle was expected");
-    uint32_t status = close(((handle *)arg)->it);
-    if (status != PALQYTUN_BUSY)
-        ((handle *)arg)->it = 0;
+    handle *it = (handle *)arg;
+    if (it->readers > 0)
+        return refuse_readers();
+    uint32_t status = close(it->it);
+    if (status != PALQYTUN_BUSY) {
+        it->it = 0;
+        it->lent = (palqytun_bytes){NULL, 0};
+    }
     return PyLong_FromUnsignedLong(status);
 }
 

@@ -275,6 +275,8 @@ static PyObject *take_output(GIVEN)
 {
     BEGIN_METHOD(take_output);
     OTHERWISE_LEAVE(true);
+    if (((handle *)((vm_object *)self)->session)->is_unread)
+        return PyErr_NoMemory(); /* what was lent comes first */
     struct out out;
     out.more = NULL;
     do
@@ -287,6 +289,31 @@ static PyObject *take_output(GIVEN)
     replied.status = out.told.status;
     Py_XDECREF(out.more);
     return has_no_memory || replied.status == PALQYTUN_DONE ? output : refused(&call, &replied);
+}
+
+PyObject *refuse_readers(void)
+{
+    return PyErr_Format(PyExc_BufferError, "the output that was lent is still read");
+}
+
+/* The output is a view of the handle, which stays with it. If there is no memory for the view, the next one has these bytes. */
+static struct method lend_output_method = {"lend_output", 0, 0, 0, {NULL}, {NULL}, NULL};
+static PyObject *lend_output(GIVEN)
+{
+    BEGIN_METHOD(lend_output);
+    OTHERWISE_LEAVE(true);
+    handle *session = (handle *)((vm_object *)self)->session;
+    if (session->readers > 0)
+        return refuse_readers();
+    if (!session->is_unread)
+        replied.status = pq_lend_output(vm, &session->lent);
+    if (replied.status != PALQYTUN_DONE)
+        return refused(&call, &replied);
+    if (session->lent.len > 0)
+        Py_CLEAR(((vm_object *)self)->fed);
+    PyObject *view = PyMemoryView_FromObject((PyObject *)session);
+    session->is_unread = view == NULL;
+    return view;
 }
 
 static struct method is_completed_method = {"is_completed", 1, 1, 1, {"handle"}, {NULL}, NULL};
@@ -456,6 +483,7 @@ static const struct {
     {&last_command_index_method, last_command_index},
     {&notify_input_method, notify_input},
     {&take_output_method, take_output},
+    {&lend_output_method, lend_output},
     {&is_completed_method, is_completed},
     {&do_await_method, do_await},
     {&take_notification_method, take_notification},

@@ -119,6 +119,7 @@ CALLS: dict[str, list[Call]] = {
         *variants(VM.notify_error, (418, ""), related=Related(3, CommandType.GET_STATE)),
     ],
     "take_output": variants(VM.take_output, ()),
+    "lend_output": variants(VM.lend_output, ()),
     "is_ready_to_execute": variants(VM.is_ready_to_execute, ()),
     "is_completed": variants(VM.is_completed, (17,), (1,), (99,)),
     "do_await": variants(

@@ -100,12 +100,12 @@ class Fields(unittest.TestCase):
         self.assertEqual(found and (found.field, found.recorded, found.asked), ("result_completion_id", "7", "3"))
 
     def test_what_isnt_compared(self) -> None:
-        """A payload that replay doesn't compare isn't named, although it differs too."""
-        entry = frame_of('SetState key="k" value="a" name="n"')
+        """A payload that replay doesn't compare isn't named, although it differs too, and comes first."""
+        entry = frame_of(CALL.format("Ada", 1, 2) + ' name="n"')
         for call, options in (
-            (lambda vm: vm.sys_state_set("k", b"b", name="m", unstable=True), {}),
-            (lambda vm: vm.sys_state_set("k", bytearray(b"b"), name="m", unstable=True), {}),
-            (lambda vm: vm.sys_state_set("k", b"b", name="m"), {"checks": "off"}),
+            (lambda vm: vm.sys_call("Greeter", "greet", b"Bob", name="m", unstable=True), {}),
+            (lambda vm: vm.sys_call("Greeter", "greet", bytearray(b"Bob"), name="m", unstable=True), {}),
+            (lambda vm: vm.sys_call("Greeter", "greet", b"Bob", name="m"), {"checks": "off"}),
         ):
             found = difference(call, entry, **options)
             self.assertEqual(found and (found.field, found.recorded, found.asked), ("name", '"n"', '"m"'))

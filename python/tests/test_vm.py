@@ -27,7 +27,7 @@ class Errors(unittest.TestCase):
         error = self.refusal(vm.sys_run, "charge")
         self.assertIsInstance(error, JournalMismatch)
         self.assertEqual((error.code, error.text, error.hint), (Code.JOURNAL_MISMATCH, "CommandTypeMismatchError", None))
-        self.assertEqual(str(error), "570 JOURNAL_MISMATCH: CommandTypeMismatchError")
+        self.assertEqual(str(error), "570 JOURNAL_MISMATCH: CommandTypeMismatchError: command 1 is recorded as Sleep, and the call makes Run")
 
     def test_the_end(self) -> None:
         vm = begun()

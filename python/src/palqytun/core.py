@@ -316,17 +316,27 @@ class VM:
             raise RuntimeError("there is no VM")
         raise BadLine(f"the VM can't read this line: {line[:200]}")
 
-    def _ask(self, name: str, *given: object, payload: object = None) -> Replied:
-        """Makes a typed call, and gives its reply; an error is raised. If the payload is large, other threads run meanwhile."""
+    def _ask(self, name: str, *given: object) -> Replied:
+        """Makes a typed call of a command, and gives its reply; an error is raised."""
+        replied: Replied = self._calls[name](self._session, *given)
+        if replied.status:
+            self._check_asked(replied, name, given)
+        return replied
+
+    def _send(self, payload: object, name: str, *given: object) -> Replied:
+        """Makes a typed call of a command with a payload. If that is large, other threads run meanwhile."""
         is_large = isinstance(payload, (bytes, bytearray, memoryview)) and len(payload) > _library.KEPT
         replied: Replied = (self._library.released if is_large else self._calls)[name](self._session, *given)
         if replied.status:
-            is_unstable = bool(given) and given[-1] is True  # no other argument is a bool
-            self._check_made(replied, lambda vm: vm._calls[name](vm._session, *given), is_unstable)
+            self._check_asked(replied, name, given)
         return replied
 
+    def _check_asked(self, replied: Replied, name: str, given: tuple[object, ...]) -> None:
+        """Raises an error of a typed call with these arguments. The last one says whether it is unstable, if it is a `bool`."""
+        self._check_made(replied, lambda vm: vm._calls[name](vm._session, *given), bool(given) and given[-1] is True)
+
     def _made(self, replied: Replied) -> Replied:
-        """What a call returns that the handler doesn't make; an error is raised."""
+        """What a call without a command has returned; an error is raised."""
         if replied.status:
             self._check_made(replied)
         return replied
@@ -353,8 +363,8 @@ class VM:
             raise RuntimeError(f"the call was not made: status {replied.status}")
 
     def _differs(self, text: str, related: Related | None, call: Callable[[VM], object] | None, is_unstable: bool) -> Difference | None:
-        """In what the call that has failed the VM isn't as it is recorded, if this error is the VM's own and says so."""
-        if self._fed is None or self._handed_in is not None:
+        """In what the call that has failed the VM isn't as it is recorded, if this error says so."""
+        if self._fed is None:
             return None
         refused = _differing.Refused(text, related, self._fed, self.last_command_index)
         again = None if call is None else _differing.Call(call, self._ignores_payloads or is_unstable)
@@ -401,7 +411,7 @@ class VM:
         >>> vm.get_response_head().headers
         (('content-type', 'application/vnd.restate.invocation.v7'),)
         """
-        replied = self._ask("head")
+        replied = self._made(self._calls["head"](self._session))
         return ResponseHead(replied.number, self.version, self._parts.pairs(0, replied.rows))
 
     def notify_input(self, data: Data) -> None:
@@ -414,7 +424,7 @@ class VM:
 
     def notify_input_closed(self) -> None:
         """No more bytes come."""
-        self._ask("close_input")
+        self._made(self._calls["close_input"](self._session))
 
     def notify_error(
         self,
@@ -453,6 +463,19 @@ class VM:
             self._fed = None
         return output
 
+    def lend_output(self) -> memoryview:
+        """Takes all bytes that wait to be sent, without the copy that `take_output` makes: a view of them, for reading. They stay as they are until it is
+        released, also if other calls are made. Until then `free` and the next `lend_output` raise `BufferError`, so it best stands in a `with`. Memory of
+        more than 64 KiB is given back by the next `lend_output`. After a `MemoryError` the same bytes are lent again. By ctypes they are
+        copied.
+
+        >>> slept = vm.sys_sleep(1000)
+        >>> with vm.lend_output() as output:
+        ...     len(output)
+        30
+        """
+        return memoryview(self.take_output())
+
     def describe(self) -> str:
         """The VM in a line for a log: its version, the invocation's id once Start has come, its state, and the index of its last command, the Input
         being 0.
@@ -470,11 +493,11 @@ class VM:
         >>> vm.is_ready_to_execute()
         True
         """
-        return self._ask("is_ready").first == 1
+        return self._made(self._calls["is_ready"](self._session)).first == 1
 
     def is_completed(self, handle: int) -> bool:
         """Whether a take of the handle would return a value."""
-        return self._ask("is_completed", integer("handle", handle, HANDLE)).first == 1
+        return self._made(self._calls["is_completed"](self._session, integer("handle", handle, HANDLE))).first == 1
 
     def do_await(self, future: int | Future | AnyOf) -> Literal[True] | ExecuteRun | EphemeralReady | Waiting:
         """Whether the future, a handle, a `Future` or an `AnyOf`, is awake.
@@ -495,8 +518,8 @@ class VM:
         Waiting(input=True, run=True)
         """
         if isinstance(future, (Future, AnyOf)):
-            return self._awaited(self._ask("await_tree", future.lent()))
-        return self._awaited(self._ask("await", handle_of("future", future)))
+            return self._awaited(self._made(self._calls["await_tree"](self._session, future.lent())))
+        return self._awaited(self._made(self._calls["await"](self._session, handle_of("future", future))))
 
     def _awaited(self, replied: Replied) -> Literal[True] | ExecuteRun | EphemeralReady | Waiting:
         if replied.kind == _abi.AWAKE:
@@ -513,7 +536,7 @@ class VM:
         >>> vm.take_notification(read), vm.take_notification(read)
         (VOID, None)
         """
-        return self._taken(self._ask("take", integer("handle", handle, HANDLE)))
+        return self._taken(self._made(self._calls["take"](self._session, integer("handle", handle, HANDLE))))
 
     def _taken(self, replied: Replied) -> Result | None:
         return result_of(replied, self._parts)
@@ -569,11 +592,11 @@ class VM:
         Traceback (most recent call last):
         palqytun.errors.VMError: 573 UNSUPPORTED_FEATURE: UnsupportedFeatureForNegotiatedVersion
         """
-        return self._ask("ephemeral_state_get", utf8("key", key)).first
+        return self._made(self._calls["ephemeral_state_get"](self._session, utf8("key", key))).first
 
     def take_ephemeral_notification(self, id: int) -> bytes | Void | None:
         """Takes the value of an ephemeral read: `bytes`, or `VOID` if the key has none; `None` if it isn't there."""
-        replied = self._ask("take_ephemeral", integer("id", id, HANDLE))
+        replied = self._made(self._calls["take_ephemeral"](self._session, integer("id", id, HANDLE)))
         return cast(bytes | Void | None, result_of(replied, self._parts))
 
     def sys_state_set(self, key: str, value: Data, *, name: str | None = None, unstable: bool = False) -> None:
@@ -584,7 +607,7 @@ class VM:
         TypeError: value must be bytes, not int
         """
         given = utf8("key", key), octets("value", value), lent_name(name), truth("unstable", unstable)
-        self._ask("state_set", *given, payload=value)
+        self._send(value, "state_set", *given)
 
     def sys_state_clear(self, key: str, *, name: str | None = None) -> None:
         """Takes a state key's value away."""
@@ -615,7 +638,7 @@ class VM:
         """
         target = lent_target(service, handler, key, idempotency_key, scope, limit_key, headers)
         given = octets("value", value), lent_name(name), truth("unstable", unstable)
-        replied = self._ask("call", target, *given, payload=value)
+        replied = self._send(value, "call", target, *given)
         return replied.first, replied.second
 
     def sys_call_with_deadline(
@@ -642,7 +665,7 @@ class VM:
         """
         target = lent_target(service, handler, key, idempotency_key, scope, limit_key, headers)
         given = octets("value", value), integer("wake_up_time", wake_up_time), lent_name(name), truth("unstable", unstable)
-        replied = self._ask("call_with_deadline", target, *given, payload=value)
+        replied = self._send(value, "call_with_deadline", target, *given)
         return replied.first, replied.second, replied.third
 
     def sys_send(
@@ -668,7 +691,7 @@ class VM:
         target = lent_target(service, handler, key, idempotency_key, scope, limit_key, headers)
         time = 0 if at is None else integer("at", at)
         given = octets("value", value), time, lent_name(name), truth("unstable", unstable)
-        return self._ask("send", target, *given, payload=value).first
+        return self._send(value, "send", target, *given).first
 
     def sys_awakeable(self) -> Awakeable:
         """Makes an awakeable.
@@ -676,21 +699,21 @@ class VM:
         >>> vm.sys_awakeable()
         Awakeable(handle=17, id='sign_1YWJjAAAAEQ')
         """
-        return Awakeable(self._ask("awakeable").first, self._parts.text(0))
+        return Awakeable(self._made(self._calls["awakeable"](self._session)).first, self._parts.text(0))
 
     def create_signal_handle(self, name: str) -> int:
         """A handle for the signal of this name."""
-        return self._ask("signal", utf8("name", name)).first
+        return self._made(self._calls["signal"](self._session, utf8("name", name))).first
 
     def sys_complete_awakeable(self, id: str, value: Data | Failure, *, unstable: bool = False) -> None:
         """Gives the awakeable of this id its result, bytes or a `Failure`."""
         given = utf8("id", id), lent_value("value", value), truth("unstable", unstable)
-        self._ask("complete_awakeable", *given, payload=value)
+        self._send(value, "complete_awakeable", *given)
 
     def sys_complete_signal(self, invocation_id: str, name: str, value: Data | Failure) -> None:
         """Sends a named signal to another invocation."""
         given = utf8("invocation_id", invocation_id), utf8("name", name), lent_value("value", value)
-        self._ask("complete_signal", *given, payload=value)
+        self._send(value, "complete_signal", *given)
 
     def sys_run(self, name: str) -> Run:
         """Calls a run, a side effect whose result is kept; an await says when to execute it.
@@ -721,7 +744,7 @@ class VM:
             after, error = integer("result.duration", result.duration), lent_retryable("result", result)
             self._hand_in(error, "propose_retryable", of, after, error, under)
         else:
-            self._ask("propose", of, lent_value("result", result), under, payload=result)
+            self._send(result, "propose", of, lent_value("result", result), under)
 
     def sys_cancel_invocation(self, invocation_id: str) -> None:
         """Sends the built-in cancel signal to another invocation."""
@@ -738,7 +761,7 @@ class VM:
     def sys_complete_promise(self, key: str, value: Data | Failure, *, unstable: bool = False) -> int:
         """Completes a promise of the workflow; returns the handle of `VOID`, or of a `Failure` if it had been completed before."""
         given = utf8("key", key), lent_value("value", value), truth("unstable", unstable)
-        return self._ask("complete_promise", *given, payload=value).first
+        return self._send(value, "complete_promise", *given).first
 
     def sys_attach_invocation(self, target: Target) -> int:
         """Attaches to another invocation, an `InvocationId`, `WorkflowId` or `IdempotencyId`; returns the handle of its result.
@@ -754,7 +777,7 @@ class VM:
 
     def sys_write_output(self, value: Data | Failure, *, unstable: bool = False) -> None:
         """The handler's result, bytes or a `Failure`."""
-        self._ask("write_output", lent_value("value", value), truth("unstable", unstable), payload=value)
+        self._send(value, "write_output", lent_value("value", value), truth("unstable", unstable))
 
     def sys_end(self) -> None:
         """The handler ends; its last call.
@@ -765,7 +788,7 @@ class VM:
         Traceback (most recent call last):
         palqytun.errors.Closed: 598 CLOSED: ClosedError
         """
-        self._ask("end")
+        self._made(self._calls["end"](self._session))
 
     def state(self) -> State:
         """`WaitingPreFlight`, `Replaying`, `Processing` or `Closed`.
@@ -773,7 +796,7 @@ class VM:
         >>> vm.state()
         'Processing'
         """
-        return _STATES[self._ask("state").first]
+        return _STATES[self._made(self._calls["state"](self._session)).first]
 
     def last_command_index(self) -> int:
         """The index of the last command; -1 before any.
@@ -781,5 +804,5 @@ class VM:
         >>> vm.last_command_index()
         0
         """
-        replied = self._ask("last_command_index")
+        replied = self._made(self._calls["last_command_index"](self._session))
         return replied.number if replied.kind == _abi.INDEX else -1
