@@ -7,11 +7,12 @@ import os
 import pickle
 import sys
 import unittest
+import unittest.mock
 from collections.abc import Callable
 from pathlib import Path
 
 from attempt import CONTENT_TYPE, begun, completion, fed, input_frame, sleep_frame, start
-from palqytun import VM, CommandType, Difference, JournalMismatch, VMError, first_completed
+from palqytun import VM, CommandType, Difference, JournalMismatch, VMError, _differing, first_completed
 from palqytun.frames import frame_of, line_of, split
 
 TOP = Path(__file__).resolve().parents[2]
@@ -147,6 +148,12 @@ class Fields(unittest.TestCase):
         self.assertEqual(len(said), 1)
         self.assertIn('is recorded with name nothing, and the call gives "nap"', said.pop())
 
+    def test_without_memory_for_it(self) -> None:
+        """The error is raised as it is."""
+        with unittest.mock.patch.object(_differing, "found", side_effect=MemoryError):
+            error = refusal(lambda vm: vm.sys_run("charge"), sleep_frame(1000, 1))
+        self.assertEqual((error.text, error.difference), ("CommandTypeMismatchError", None))
+
     def test_of_an_error_that_was_handed_in(self) -> None:
         vm = fed(start(2), input_frame(), sleep_frame(1000, 1))
         vm.sys_input()
@@ -206,6 +213,9 @@ class Kept(unittest.TestCase):
         self.assertFalse(self.is_kept(lambda vm, slept: [vm.sys_run("charge"), vm.take_output()]))
         self.assertFalse(self.is_kept(lambda vm, slept: vm.do_await(vm.sys_run("charge").handle)))
         self.assertFalse(self.is_kept(lambda vm, slept: vm.free()))
+
+    def test_nothing_without_replay(self) -> None:
+        self.assertIsNone(fed(start(), input_frame(), replay="off")._fed)
 
     def test_nothing_that_comes_later(self) -> None:
         vm = begun()

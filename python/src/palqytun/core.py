@@ -34,6 +34,7 @@ The shared object is in this package; `./bindings/build` puts it there. It is lo
 
 from __future__ import annotations
 
+import contextlib
 from collections.abc import Callable, Iterable
 from types import TracebackType
 from typing import Any, Literal, Never, Self, cast
@@ -228,10 +229,11 @@ class VM:
         self._parts = Parts(self._calls["part"], session)
         self._is_begun = False
         self._handed_in: int | None = None  # the code of the error that was handed in, if the VM has failed by it
-        self._is_refused, self._difference = False, cast(Difference | None, None)  # whether a call was refused by an error, and in what it differs
+        self._is_refused = False  # an error has failed the VM
+        self._difference: Difference | None = None  # in what that call wasn't as recorded
         self._ignores_payloads = checks == "off"
         # What was fed, to say in what a call differs: a list until the handler begins, then a tuple. None once nothing is replayed any more.
-        self._fed: list[bytes] | tuple[bytes, ...] | None = []
+        self._fed: list[bytes] | tuple[bytes, ...] | None = [] if replay == "on" else None
         self.version = f"V{self._made(self._calls['make'](self._session, asked, words)).first}"
 
     def __enter__(self) -> Self:
@@ -354,7 +356,8 @@ class VM:
             related = related_of(replied, self._parts)
             if not self._is_refused and _has_failed(replied):
                 self._is_refused = True
-                self._difference = self._differs(text, related, call, is_unstable)
+                with contextlib.suppress(MemoryError):  # then the error says less
+                    self._difference = self._differs(text, related, call, is_unstable)
             raise self._refusal(replied.number, text, is_first, stack, related)
         self._check(replied.status)
         if replied.status == _abi.BAD_TEXT:
@@ -368,7 +371,7 @@ class VM:
             return None
         refused = _differing.Refused(text, related, self._fed, self.last_command_index)
         again = None if call is None else _differing.Call(call, self._ignores_payloads or is_unstable)
-        return _differing.found(refused, again, lambda: VM(f"application/vnd.restate.invocation.{self.version.lower()}", awaiting="never"))
+        return _differing.found(refused, again, lambda: VM(content_type(int(self.version[1:])), awaiting="never"))
 
     def _hand_in(self, error: _abi.Error, name: str, *given: object) -> None:
         """Makes a call that hands in this error. If the VM fails by it, each later call is refused by it; a VM that had failed keeps its first error.
