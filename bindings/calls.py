@@ -4,8 +4,8 @@ import pathlib
 import struct
 
 from handler import CONTENT_TYPE, frames, start
-from palqytun import VM, BadLine, Cancelled, EphemeralReady, Failure, IdempotencyId, InvocationId, Retryable, Suspended, VMError, WorkflowId
-from palqytun import retry_exponential, retry_fixed, retry_never
+from palqytun import LAST_COMMAND, VM, BadLine, Cancelled, EphemeralReady, Failure, IdempotencyId, InvocationId, Retryable, Suspended, VMError
+from palqytun import WorkflowId, retry_exponential, retry_fixed, retry_never
 from palqytun import all_completed, all_succeeded_or_first_failed, first_completed, first_succeeded_or_all_failed, unknown
 
 INPUT = bytes.fromhex((pathlib.Path(__file__).with_name("journal.hex")).read_text().splitlines()[2])
@@ -97,7 +97,7 @@ print(refused(vm.call, "vm -"))
 print(refused(vm.state))
 print(refused(vm.notify_input, b""))
 print(vm.call('vm "application/vnd.restate.invocation.v5"'))
-vm.notify_error(418, "mine", stacktrace="here", behaviour="retry", delay=1500, related="last")
+vm.notify_error(418, "mine", stacktrace="here", behaviour="retry", delay=1500, related=LAST_COMMAND)
 print(refused(vm.sys_input))
 vm.free()
 vm.free()
@@ -116,7 +116,7 @@ with VM("application/vnd.restate.invocation.v8") as vm:
     ready = vm.do_await(17)
     print(known, other, ready in (EphemeralReady(known), EphemeralReady(other)), bool(ready))
     print(vm.take_ephemeral_notification(known), vm.do_await(17), vm.take_ephemeral_notification(other), vm.take_ephemeral_notification(known))
-    print(vm.last_command_index(), vm.take_output())
+    print(vm.last_command_index(), vm.take_output(), bytes(vm.lend_output()))
 with VM(CONTENT_TYPE) as vm:
     vm.notify_input(start(1) + INPUT)
     vm.sys_input()
