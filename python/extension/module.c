@@ -67,6 +67,7 @@ static PyObject *closed(PyObject *arg, uint32_t (*close)(uintptr_t))
     if (status != PALQYTUN_BUSY) {
         it->it = 0;
         it->lent = (palqytun_bytes){NULL, 0};
+        it->is_unread = false;
     }
     return PyLong_FromUnsignedLong(status);
 }

@@ -168,7 +168,7 @@ static PyObject *passed_on(PyObject *self, const char *method, const palqytun_re
     return result;
 }
 
-/* Raises what a reply says that isn't done. It is told with the call, which may be made again on another VM. */
+/* Raises what a reply says that isn't done. The call goes with it, since it may be made again on another VM. */
 static PyObject *refused(const struct call *call, const palqytun_replied *it)
 {
     PyObject *replied = replied_of(it), *args = replied ? placed(call) : NULL, *names = args ? named(call) : NULL;
@@ -257,6 +257,15 @@ static PyObject *last_command_index(GIVEN)
     return replied.kind == PALQYTUN_INDEX ? PyLong_FromUnsignedLongLong(replied.number) : PyLong_FromLong(-1);
 }
 
+/* Keeps what was fed, until the handler begins. If there is no memory for that, an error says less. */
+static void keep_fed(vm_object *it, PyObject *data)
+{
+    if (it->fed != NULL && PyList_Check(it->fed) && PyList_Append(it->fed, data) != 0) {
+        PyErr_Clear();
+        Py_CLEAR(it->fed);
+    }
+}
+
 static struct method notify_input_method = {"notify_input", 1, 1, 1, {"data"}, {NULL}, NULL};
 static PyObject *notify_input(GIVEN)
 {
@@ -264,9 +273,8 @@ static PyObject *notify_input(GIVEN)
     palqytun_bytes data;
     OTHERWISE_LEAVE(is_bytes(given[0], &data));
     UNLOCKED(data.len, replied.status = pq_feed(vm, data.at, data.len));
-    PyObject *fed = ((vm_object *)self)->fed;
-    if (replied.status == PALQYTUN_DONE && fed != NULL && PyList_Check(fed) && PyList_Append(fed, given[0]) != 0)
-        return NULL;
+    if (replied.status == PALQYTUN_DONE)
+        keep_fed((vm_object *)self, given[0]);
     return none_of(&call, &replied);
 }
 

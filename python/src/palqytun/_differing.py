@@ -97,8 +97,8 @@ def _commands(stream: bytes) -> Iterator[bytes]:
 
 
 def _made_by(call: Call, vm: VM, is_lazy: bool) -> list[bytes]:
-    """The commands that a call makes on a VM without a journal but for the input, and with an empty state. A read of the state is made in one of its
-    two forms."""
+    """The commands that a call makes on a new VM, whose journal has an input alone, and whose state is empty. A read of the state is made in one of
+    its two forms."""
     start = f'Start id="-" debug_id="-" known_entries=1 partial={"true" if is_lazy else "false"}'
     vm.notify_input(frames.frame_of(start) + frames.frame_of("Input"))
     vm.sys_input()
@@ -139,7 +139,7 @@ def _last_id(commands: Iterable[bytes]) -> int:
 
 
 def _by_ids(related: Related, here: bytes, asked: bytes, later: int) -> Difference | None:
-    """The same of their ids. Those of the call are later in its place, by so much, than where it was made again."""
+    """The same of their ids. In its place the call has ids that are greater by `later` than where it was made again."""
     for field, recorded, made in zip(_IDS, _ids(here), _ids(asked), strict=True):
         if made and recorded != made + later:
             return _by_field(related, field, str(recorded), str(made + later))

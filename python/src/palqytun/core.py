@@ -423,7 +423,10 @@ class VM:
         calls = self._library.released if len(data) > _library.KEPT else self._calls
         self._check(calls["feed"](self._session, data))
         if isinstance(self._fed, list):
-            self._fed.append(data)
+            try:
+                self._fed.append(data)
+            except MemoryError:  # then an error says less
+                self._fed = None
 
     def notify_input_closed(self) -> None:
         """No more bytes come."""
