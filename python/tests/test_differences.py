@@ -1,5 +1,6 @@
 """In what a call isn't as the journal has it: an error says it as `vmscript --details` does, with both values, and by a formatter's own names."""
 
+import _testcapi
 import copy
 import gc
 import json
@@ -15,11 +16,6 @@ import palqytun
 from attempt import CONTENT_TYPE, begun, completion, fed, input_frame, sleep_frame, start
 from palqytun import VM, CommandType, Difference, JournalMismatch, VMError, _differing, first_completed
 from palqytun.frames import frame_of, line_of, split
-
-try:
-    import _testcapi
-except ImportError:  # some builds of Python leave it out
-    _testcapi = None
 
 TOP = Path(__file__).resolve().parents[2]
 sys.path.insert(0, str(TOP))
@@ -229,19 +225,6 @@ class Kept(unittest.TestCase):
         vm.notify_input(completion(1, b"\0"))
         self.assertIs(vm._fed, before)
 
-    @unittest.skipUnless(palqytun.implementation == "c", "by ctypes the call itself takes memory")
-    @unittest.skipUnless(_testcapi, "this Python has no _testcapi, which refuses memory")
-    def test_without_memory_the_vm_is_fed(self) -> None:
-        vm, journal = VM(CONTENT_TYPE), start() + input_frame()
-        pieces = [journal[at : at + 4] for at in range(0, len(journal), 4)]
-        for piece in pieces:
-            try:
-                _testcapi.set_nomemory(0, 0)
-                vm.notify_input(piece)
-            finally:
-                _testcapi.remove_mem_hooks()
-        self.assertEqual((vm._fed, vm.sys_input().value), (None, b"Till"))
-
     def test_nothing_once_the_vm_is_gone(self) -> None:
         piece = start()
         before, vm = sys.getrefcount(piece), VM(CONTENT_TYPE)
@@ -250,6 +233,23 @@ class Kept(unittest.TestCase):
         del vm
         gc.collect()
         self.assertEqual(sys.getrefcount(piece), before)
+
+
+if palqytun.implementation == "c":
+
+    class Refused(unittest.TestCase):
+        """By ctypes a call that finds no memory isn't made."""
+
+        def test_without_memory_the_vm_is_fed(self) -> None:
+            vm, journal = VM(CONTENT_TYPE), start() + input_frame()
+            pieces = [journal[at : at + 4] for at in range(0, len(journal), 4)]
+            for piece in pieces:
+                try:
+                    _testcapi.set_nomemory(0, 0)
+                    vm.notify_input(piece)
+                finally:
+                    _testcapi.remove_mem_hooks()
+            self.assertEqual((vm._fed, vm.sys_input().value), (None, b"Till"))
 
 
 class Streams(unittest.TestCase):

@@ -1,5 +1,6 @@
 """The output that a VM lends: the bytes that `take_output` would copy, as they were while they are read, whatever comes meanwhile."""
 
+import _testcapi
 import gc
 import pathlib
 import resource
@@ -9,14 +10,8 @@ import palqytun
 from attempt import CONTENT_TYPE, begun
 from palqytun import VM, _library
 
-try:
-    import _testcapi
-except ImportError:  # some builds of Python leave it out
-    _testcapi = None
-
 LARGE = 1 << 21
 MAPPED = 1 << 25  # bytes that malloc gives back at once
-BY_C = unittest.skipUnless(palqytun.implementation == "c", "by ctypes the bytes are a copy")
 
 
 def pages() -> int:
@@ -48,25 +43,6 @@ class Loans(unittest.TestCase):
             self.assertEqual(bytes(output), before)
         self.assertIn(b"last", bytes(vm.lend_output()))
 
-    @BY_C
-    def test_what_would_end_it_is_refused(self) -> None:
-        vm = begun()
-        vm.sys_state_set("k", b"v")
-        with vm.lend_output() as output:
-            before = bytes(output)
-            for call in (vm.free, vm.lend_output, lambda: vm.__exit__(None, None, None)):
-                with self.assertRaisesRegex(BufferError, "^the output that was lent is still read$"):
-                    call()
-            self.assertEqual((bytes(output), vm.state()), (before, "Processing"))
-            with memoryview(output)[3:] as part:
-                output.release()
-                with self.assertRaises(BufferError):
-                    vm.free()
-                self.assertEqual(bytes(part), before[3:])
-        vm.free()
-        with self.assertRaises(RuntimeError):
-            vm.lend_output()
-
     def test_it_outlives_the_vm(self) -> None:
         vm = begun()
         vm.sys_state_set("k", b"x" * LARGE)
@@ -92,32 +68,54 @@ class Loans(unittest.TestCase):
         vm.lend_output().release()
         self.assertIsNone(vm._fed)
 
-    @BY_C
-    @unittest.skipUnless(_testcapi, "this Python has no _testcapi, which refuses memory")
-    def test_without_memory_for_a_view(self) -> None:
-        """Nothing is lost, and nothing comes before it."""
-        vm = begun()
-        vm.sys_state_set("k", b"first")
-        _testcapi.set_nomemory(0, 0)
-        try:
-            vm.lend_output()
-        except MemoryError:
-            refused = True
-        finally:
-            _testcapi.remove_mem_hooks()
-        self.assertTrue(refused)
-        vm.sys_state_set("k", b"second")
-        self.assertRaises(MemoryError, vm.take_output)
-        with vm.lend_output() as output:
-            self.assertIn(b"first", bytes(output))
-            self.assertNotIn(b"second", bytes(output))
-        self.assertIn(b"second", vm.take_output())
-
     def test_a_vm_that_was_not_made(self) -> None:
         with self.assertRaises((AttributeError, RuntimeError)):
             VM.lend_output(VM.__new__(VM))
         vm = VM(CONTENT_TYPE)
         self.assertEqual(bytes(vm.lend_output()), b"")
+
+
+if palqytun.implementation == "c":
+
+    class Views(unittest.TestCase):
+        """By ctypes the bytes are a copy, of which the VM knows nothing."""
+
+        def test_what_would_end_it_is_refused(self) -> None:
+            vm = begun()
+            vm.sys_state_set("k", b"v")
+            with vm.lend_output() as output:
+                before = bytes(output)
+                for call in (vm.free, vm.lend_output, lambda: vm.__exit__(None, None, None)):
+                    with self.assertRaisesRegex(BufferError, "^the output that was lent is still read$"):
+                        call()
+                self.assertEqual((bytes(output), vm.state()), (before, "Processing"))
+                with memoryview(output)[3:] as part:
+                    output.release()
+                    with self.assertRaises(BufferError):
+                        vm.free()
+                    self.assertEqual(bytes(part), before[3:])
+            vm.free()
+            with self.assertRaises(RuntimeError):
+                vm.lend_output()
+
+        def test_without_memory_for_a_view(self) -> None:
+            """Nothing is lost, and nothing comes before it."""
+            vm = begun()
+            vm.sys_state_set("k", b"first")
+            _testcapi.set_nomemory(0, 0)
+            try:
+                vm.lend_output()
+            except MemoryError:
+                refused = True
+            finally:
+                _testcapi.remove_mem_hooks()
+            self.assertTrue(refused)
+            vm.sys_state_set("k", b"second")
+            self.assertRaises(MemoryError, vm.take_output)
+            with vm.lend_output() as output:
+                self.assertIn(b"first", bytes(output))
+                self.assertNotIn(b"second", bytes(output))
+            self.assertIn(b"second", vm.take_output())
 
 
 if __name__ == "__main__":

@@ -472,8 +472,7 @@ class VM:
     def lend_output(self) -> memoryview:
         """Takes all bytes that wait to be sent, without the copy that `take_output` makes: a view of them, for reading. They stay as they are until it is
         released, also if other calls are made. Until then `free` and the next `lend_output` raise `BufferError`, so it best stands in a `with`. Memory of
-        more than 64 KiB is given back by the next `lend_output`. After a `MemoryError` the same bytes are lent again. By ctypes they are
-        copied.
+        more than 64 KiB is given back by the next `lend_output`. By ctypes the bytes are copied, and no call is refused.
 
         >>> slept = vm.sys_sleep(1000)
         >>> with vm.lend_output() as output:
