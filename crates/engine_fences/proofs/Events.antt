@@ -75,7 +75,7 @@ none_made : {H : Type 0} (P : Invocation H → Invocation H → Type 0) (i : ℕ
 none_made P i it o n same none is = absurd (none_some it (sym (same ∙ none) ∙ is))
 
 -- what is there, for what waits at a place
-brought_is : {H : Type 0} (e : Engine H) (place at : ℕ) (it : Invocation H) (m : MemberView H) (b : Brought) → slice_get e.invocations.items place ≡ Some it → it.member ≡ Some m → brought_at e place at ≡ Some b → (w : Waiting) × (slice_get m.waiting at ≡ Some w)
+pub brought_is : {H : Type 0} (e : Engine H) (place at : ℕ) (it : Invocation H) (m : MemberView H) (b : Brought) → slice_get e.invocations.items place ≡ Some it → it.member ≡ Some m → brought_at e place at ≡ Some b → (w : Waiting) × (slice_get m.waiting at ≡ Some w)
 brought_is {H} e place at it m b was there h = by (slice_get m.waiting at) (sym (ap (brought_in e place at) there) ∙ sym (ap (brought_of e place at) was) ∙ h)
   where
     by : (o : Option Waiting) → option_and_then (brought_for e place) o ≡ Some b → (w : Waiting) × (o ≡ Some w)

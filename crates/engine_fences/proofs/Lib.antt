@@ -6,6 +6,7 @@ pub mod Carriers
 pub mod Stores
 pub mod Completing
 pub mod Counting
+pub mod Delivering
 pub mod Events
 pub mod Naming
 pub mod Ordered

@@ -1,5 +1,6 @@
 pub mod Causes
 pub mod Completions
+pub mod Deliveries
 pub mod Fences
 pub mod KeyStates
 pub mod KeyTurns
