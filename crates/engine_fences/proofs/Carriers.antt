@@ -11,13 +11,16 @@ use Rattle.journal_protocol.specs.NotificationResult.TheVariants as result
 use Rattle.journal_protocol.specs.Signal.{Signal}
 use Rattle.journal_protocol.specs.Signal.TheVariants as signal
 use Rattle.journal_protocol.specs.ValueOrFailure.{ValueOrFailure}
-use Rattle.journal_entries.specs.Arrivals.{completes_among, completes_by}
+use Rattle.journal_protocol.specs.RunCommand.{RunCommand}
+use Rattle.journal_entries.specs.Arrivals.{completes_among, completes_by, if_same}
 use Rattle.vm_asks.specs.Carried.{carried}
 use Rattle.journal_entries.specs.declared.completions.Completes.{Completes}
+use Rattle.journal_entries.specs.declared.completions.Completes.TheVariants as completes
 use Rattle.journal_entries.specs.Entries.{said_at, said_in}
 use Rattle.journal_entries.specs.Journal.{read_before}
 use Rattle.vm_model.specs.Carried.{is_id_among}
 use Rattle.world_rounds.proofs.Once.{completes_not}
+use Rattle.world_rounds.specs.Outside.{IsRunIn}
 use Rattle.engine_effects.specs.Awakeables.{awakeable_named}
 use Rattle.engine_effects.specs.Effects.{awoken, completing_result, effect_of, timer_of}
 use Rattle.engine_inboxes.specs.declared.types.Brought.{Brought}
@@ -29,7 +32,7 @@ use Rattle.engine_inboxes.specs.Notes.{completion, note_by, signal_id}
 use Rattle.engine_inboxes.proofs.Coming.{none_some, same_id, some_same}
 use Rattle.engines.specs.Between.{IsOneOf, waited_in}
 use Rattle.engines.proofs.Among.{among_either, among_left, among_right}
-use Rattle.engine_fences.specs.Completions.{BringsId, BringsResult, IsCompletionOf}
+use Rattle.engine_fences.specs.Completions.{BringsId, BringsResult, IsCompletionOf, IsOfOwnCommand, IsOwnCompletionOf}
 
 same_test : (a b : ℕ) → b ≡ a → (a == b) ≡ true
 same_test a b e = grind (arith, nat_tests)
@@ -100,6 +103,66 @@ carrier id ms h = of None refl (carried_among id ms None h)
     of before none (inl c) = c
     of before none (inr k) = absurd (let x : false ≡ true = sym (ap is_some none) ∙ k in cc)
 
+-- ---- the run that carries an id
+
+-- it is a run's command, which carries the id
+abbrev IsRunOf : ℕ → Message → Type 0
+IsRunOf id m = (c : RunCommand) × (m ≡ message.Run c) × (id ≡ c.result_completion_id)
+
+any_not : completes.AnyResult ≡ completes.Proposal → ⊥
+any_not e = cc
+
+id_not : completes.InvocationId ≡ completes.Proposal → ⊥
+id_not e = cc
+
+-- an id that something else completes is a run's only if it was before
+other_kind : (b : Bool) (kind : Completes) (before : Option Completes) → (kind ≡ completes.Proposal → ⊥) → if_same b kind before ≡ Some completes.Proposal → before ≡ Some completes.Proposal
+other_kind false kind before not h = h
+other_kind true kind before not h = absurd (not (some_same kind completes.Proposal h))
+
+run_by : (id : ℕ) (m : Message) (before : Option Completes) → completes_by id m before ≡ Some completes.Proposal → IsRunOf id m ⊎ (before ≡ Some completes.Proposal)
+run_by id (message.Sleep c) before h = inr (other_kind (c.result_completion_id == id) completes.AnyResult before any_not h)
+run_by id (message.GetLazyState c) before h = inr (other_kind (c.result_completion_id == id) completes.AnyResult before any_not h)
+run_by id (message.GetLazyStateKeys c) before h = inr (other_kind (c.result_completion_id == id) completes.AnyResult before any_not h)
+run_by id (message.GetPromise c) before h = inr (other_kind (c.result_completion_id == id) completes.AnyResult before any_not h)
+run_by id (message.PeekPromise c) before h = inr (other_kind (c.result_completion_id == id) completes.AnyResult before any_not h)
+run_by id (message.CompletePromise c) before h = inr (other_kind (c.result_completion_id == id) completes.AnyResult before any_not h)
+run_by id (message.AttachInvocation c) before h = inr (other_kind (c.result_completion_id == id) completes.AnyResult before any_not h)
+run_by id (message.GetInvocationOutput c) before h = inr (other_kind (c.result_completion_id == id) completes.AnyResult before any_not h)
+run_by id (message.Call c) before h =
+    inr (other_kind (c.request.invocation_id_notification_idx == id) completes.InvocationId before id_not
+    (other_kind (c.result_completion_id == id) completes.AnyResult (if_same (c.request.invocation_id_notification_idx == id) completes.InvocationId before) any_not h))
+run_by id (message.OneWayCall c) before h = inr (other_kind (c.request.invocation_id_notification_idx == id) completes.InvocationId before id_not h)
+run_by id (message.Run c) before h = of (c.result_completion_id == id) refl h
+  where
+    of : (b : Bool) → (c.result_completion_id == id) ≡ b → if_same b completes.Proposal before ≡ Some completes.Proposal → IsRunOf id (message.Run c) ⊎ (before ≡ Some completes.Proposal)
+    of true e k = inl (c, refl, sym (same_id c.result_completion_id id e))
+    of false e k = inr k
+run_by id m before h = inr h
+
+-- a run of these commands carries it
+abbrev IsOfRunAmong : ℕ → List Message → Type 0
+IsOfRunAmong id ms = (c : RunCommand) × IsOneOf (message.Run c) ms × (id ≡ c.result_completion_id)
+
+run_among : (id : ℕ) (ms : List Message) (before : Option Completes) → completes_among id ms before ≡ Some completes.Proposal → IsOfRunAmong id ms ⊎ (before ≡ Some completes.Proposal)
+run_among id [] before h = inr h
+run_among id (m ∷ ms) before h = of (run_among id ms (completes_by id m before) h)
+  where
+    here : IsRunOf id m ⊎ (before ≡ Some completes.Proposal) → IsOfRunAmong id (m ∷ ms) ⊎ (before ≡ Some completes.Proposal)
+    here (inl (c, is, own)) = inl (c, inl (sym is), own)
+    here (inr k) = inr k
+
+    of : IsOfRunAmong id ms ⊎ (completes_by id m before ≡ Some completes.Proposal) → IsOfRunAmong id (m ∷ ms) ⊎ (before ≡ Some completes.Proposal)
+    of (inl (c, among, own)) = inl (c, inr among, own)
+    of (inr k) = here (run_by id m before k)
+
+run_of : (id : ℕ) (ms : List Message) → completes_among id ms None ≡ Some completes.Proposal → IsOfRunAmong id ms
+run_of id ms h = of None refl (run_among id ms None h)
+  where
+    of : (before : Option Completes) → before ≡ None → IsOfRunAmong id ms ⊎ (before ≡ Some completes.Proposal) → IsOfRunAmong id ms
+    of before none (inl c) = c
+    of before none (inr k) = absurd (none_some completes.Proposal (sym none ∙ k))
+
 -- ---- what waits becomes a completion of its command
 
 -- how it completes an id
@@ -169,7 +232,21 @@ delivered_kind (message.OneWayCall c) w id r a h = of a
 delivered_kind (message.CompleteAwakeable c) w id r a h = absurd (awoken_none (awakeable_named c.awakeable_id) c.result w a)
 delivered_kind m w id r a h = absurd a
 
+-- and of a call, a one-way call or a sleep: no other command waits
+pub delivered_own : (m : Message) (w : Waiting) (id : ℕ) (r : NotificationResult) → IsOneOf w (waited_by (effect_of m)) → CompletesBy w id r → IsOwnCompletionOf m id r
+delivered_own (message.Sleep c) w id r a h = delivered_kind (message.Sleep c) w id r a h
+delivered_own (message.Call c) w id r a h = delivered_kind (message.Call c) w id r a h
+delivered_own (message.OneWayCall c) w id r a h = delivered_kind (message.OneWayCall c) w id r a h
+delivered_own (message.CompleteAwakeable c) w id r a h = absurd (awoken_none (awakeable_named c.awakeable_id) c.result w a)
+delivered_own m w id r a h = absurd a
+
 -- ---- a proposal
+
+-- a run's result completes its id
+pub proposed_own : (journal : List (List ℕ)) (id : ℕ) (r : NotificationResult) → IsRunIn id journal → BringsResult r → IsOfOwnCommand journal id r
+proposed_own journal id r run brings =
+    let (c, among, own) = run_of id (said_in journal) run in
+    record { command = message.Run c; stored = among; completes = (own, brings) }
 
 -- an attempt's result completes an id of a command that waits for nothing by it
 pub proposed_kind : (m : Message) (id : ℕ) (r : NotificationResult) → IsOneOf id (carried m) → BringsResult r → ((w : Waiting) → IsOneOf w (waited_by (effect_of m)) → waits_for_id id w ≡ true → ⊥) → IsCompletionOf m id r

@@ -14,7 +14,8 @@ use Rattle.engine_inboxes.specs.declared.types.Waiting.{Waiting}
 use Rattle.engine_inboxes.proofs.Coming.{none_some}
 use Rattle.world_rounds.specs.declared.types.Event.{Event}
 use Rattle.world_rounds.specs.declared.types.Event.TheVariants as event
-use Rattle.world_rounds.specs.Course.{BeginsRound, CourseView}
+use Rattle.world_rounds.specs.declared.types.Setting.{Setting}
+use Rattle.world_rounds.specs.Course.{BeginsRound, CourseView, HappensTo}
 use Rattle.engines.specs.declared.engine.Engine.{Engine}
 use Rattle.engines.specs.declared.engine.Invocation.{Invocation}
 use Rattle.engine_inboxes.specs.declared.order.Begun.{Begun}
@@ -27,6 +28,7 @@ use Rattle.engine_inboxes.specs.Targets.{handler_named}
 use Rattle.engines.specs.Lookups.{brought_for, id_of_place, may_begin, place_of, same_as}
 use Rattle.engines.specs.Members.{Acts, Delivers, GoesBy, MemberView, StoresNextEntry, stopped, with_signal}
 use Rattle.engines.proofs.Among.{get_left, get_pushed}
+use Rattle.engines.proofs.Beginnings.{happens_setting}
 use Rattle.engines.proofs.Growing.{Seen, seen_one, some_in}
 use Rattle.engines.proofs.Storing.{own_leaves}
 
@@ -38,7 +40,7 @@ with_rounds it m = record it { member = Some m }
 pub record Holds {H : Type 0} (P : Invocation H → Invocation H → Type 0) (May : MemberView H → ℕ → Type 0) : Type 0 where
   pub same : (it : Invocation H) → P it it
   pub next : (a b c : Invocation H) → P a b → P b c → P a c
-  pub goes : (it : Invocation H) (m m' : MemberView H) → it.member ≡ Some m → m'.course.journal ≡ m.course.journal → m'.waiting ≡ m.waiting → m'.next ≡ m.next → P it (with_rounds it m')
+  pub goes : (it : Invocation H) (m m' : MemberView H) → it.member ≡ Some m → m'.course.journal ≡ m.course.journal → m'.waiting ≡ m.waiting → m'.next ≡ m.next → m'.course.setting.options ≡ m.course.setting.options → P it (with_rounds it m')
   pub gets : (it : Invocation H) (m : MemberView H) (s : Sent) → it.member ≡ Some m → P it (with_rounds it (with_signal s.signal s.brings m))
   pub comes : (it : Invocation H) (m m' : MemberView H) (at : ℕ) (w : Waiting) (b : Brought) (f : Meaning) → it.member ≡ Some m → is_some it.ended ≡ false → slice_get m.waiting at ≡ Some w → May m at → Delivers at b f m m' → P it (with_rounds it m')
   pub stores : (it : Invocation H) (m m' : MemberView H) (asks : Option Effect) (f : Meaning) → it.member ≡ Some m → is_some it.ended ≡ false → StoresNextEntry f m m' asks → P it (with_rounds it m')
@@ -82,18 +84,21 @@ brought_is {H} e place at it m b was there h = by (slice_get m.waiting at) (sym 
     by None g = absurd (none_some b g)
     by (Some w) g = (w, refl)
 
--- its stored entries, its inbox and what is next stay
+-- its stored entries, its inbox, what is next and the options of its attempts stay
 abbrev Stays : {H : Type 0} → MemberView H → MemberView H → Type 0
-Stays m m' = (m'.course.journal ≡ m.course.journal) × (m'.waiting ≡ m.waiting) × (m'.next ≡ m.next)
+Stays m m' = (m'.course.journal ≡ m.course.journal) × (m'.waiting ≡ m.waiting) × (m'.next ≡ m.next) × (m'.course.setting.options ≡ m.course.setting.options)
+
+options_stay : {H : Type 0} (f : Meaning) (e : Event) (c c' : CourseView H) → HappensTo f e c.live c c' → c'.setting.options ≡ c.setting.options
+options_stay f e c c' h = ap (λ (w : Setting). w.options) (happens_setting f e c.live c c' h)
 
 acts_keep : {H : Type 0} (f : Meaning) (e : Event) (m m' : MemberView H) → Acts f e m m' → Stays m m'
-acts_keep f (event.Arrive x) m m' h = (ap (λ (z : MemberView _). z.course.journal) h, ap (λ (z : MemberView _). z.waiting) h, ap (λ (z : MemberView _). z.next) h)
-acts_keep f (event.Store n) m m' h = (ap (λ (z : MemberView _). z.course.journal) h, ap (λ (z : MemberView _). z.waiting) h, ap (λ (z : MemberView _). z.next) h)
-acts_keep f (event.Piece n) m m' h = (own_leaves f (event.Piece n) m.course.live m.course m'.course tt h.1, ap (λ (z : MemberView _). z.waiting) h.0, ap (λ (z : MemberView _). z.next) h.0)
-acts_keep f event.Close m m' h = (own_leaves f event.Close m.course.live m.course m'.course tt h.1, ap (λ (z : MemberView _). z.waiting) h.0, ap (λ (z : MemberView _). z.next) h.0)
-acts_keep f event.Step m m' h = (own_leaves f event.Step m.course.live m.course m'.course tt h.1, ap (λ (z : MemberView _). z.waiting) h.0, ap (λ (z : MemberView _). z.next) h.0)
-acts_keep f (event.Steps n) m m' h = (own_leaves f (event.Steps n) m.course.live m.course m'.course tt h.1, ap (λ (z : MemberView _). z.waiting) h.0, ap (λ (z : MemberView _). z.next) h.0)
-acts_keep f (event.RunResult handle exit policy) m m' h = (own_leaves f (event.RunResult handle exit policy) m.course.live m.course m'.course tt h.1, ap (λ (z : MemberView _). z.waiting) h.0, ap (λ (z : MemberView _). z.next) h.0)
+acts_keep f (event.Arrive x) m m' h = (ap (λ (z : MemberView _). z.course.journal) h, ap (λ (z : MemberView _). z.waiting) h, ap (λ (z : MemberView _). z.next) h, ap (λ (z : MemberView _). z.course.setting.options) h)
+acts_keep f (event.Store n) m m' h = (ap (λ (z : MemberView _). z.course.journal) h, ap (λ (z : MemberView _). z.waiting) h, ap (λ (z : MemberView _). z.next) h, ap (λ (z : MemberView _). z.course.setting.options) h)
+acts_keep f (event.Piece n) m m' h = (own_leaves f (event.Piece n) m.course.live m.course m'.course tt h.1, ap (λ (z : MemberView _). z.waiting) h.0, ap (λ (z : MemberView _). z.next) h.0, options_stay f (event.Piece n) m.course m'.course h.1)
+acts_keep f event.Close m m' h = (own_leaves f event.Close m.course.live m.course m'.course tt h.1, ap (λ (z : MemberView _). z.waiting) h.0, ap (λ (z : MemberView _). z.next) h.0, options_stay f event.Close m.course m'.course h.1)
+acts_keep f event.Step m m' h = (own_leaves f event.Step m.course.live m.course m'.course tt h.1, ap (λ (z : MemberView _). z.waiting) h.0, ap (λ (z : MemberView _). z.next) h.0, options_stay f event.Step m.course m'.course h.1)
+acts_keep f (event.Steps n) m m' h = (own_leaves f (event.Steps n) m.course.live m.course m'.course tt h.1, ap (λ (z : MemberView _). z.waiting) h.0, ap (λ (z : MemberView _). z.next) h.0, options_stay f (event.Steps n) m.course m'.course h.1)
+acts_keep f (event.RunResult handle exit policy) m m' h = (own_leaves f (event.RunResult handle exit policy) m.course.live m.course m'.course tt h.1, ap (λ (z : MemberView _). z.waiting) h.0, ap (λ (z : MemberView _). z.next) h.0, options_stay f (event.RunResult handle exit policy) m.course m'.course h.1)
 
 module _ {H : Type 0} (P : Invocation H → Invocation H → Type 0) (May : MemberView H → ℕ → Type 0) (holds : Holds P May) where
   -- ---- one invocation
@@ -106,7 +111,7 @@ module _ {H : Type 0} (P : Invocation H → Invocation H → Type 0) (May : Memb
     where
       by : (o : Option (MemberView H)) → a.member ≡ o → GoesIn R o a b → P a b
       by None was same = is_same a b same
-      by (Some m) was (m', is, does) = let k = f m m' does in subst (P a) (sym is) (holds.goes a m m' was k.0 k.1 k.2)
+      by (Some m) was (m', is, does) = let k = f m m' does in subst (P a) (sym is) (holds.goes a m m' was k.0 k.1 k.2 k.3)
 
   sent_to : (s : Sent) (a b : Invocation H) → MemberGoes (λ x y. y ≡ with_signal s.signal s.brings x) a b → P a b
   sent_to s a b d = by a.member refl d
@@ -144,7 +149,7 @@ module _ {H : Type 0} (P : Invocation H → Invocation H → Type 0) (May : Memb
     where
       by : (o : Option (MemberView H)) → it.member ≡ o → P it (record it { member = option_map stopped it.member })
       by None was = is_same it (record it { member = option_map stopped it.member }) (ap (λ o. record it { member = option_map stopped o }) was ∙ sym (ap (λ o. record it { member = o }) was))
-      by (Some m) was = subst (P it) (sym (ap (λ o. record it { member = option_map stopped o }) was)) (holds.goes it m (stopped m) was refl refl refl)
+      by (Some m) was = subst (P it) (sym (ap (λ o. record it { member = option_map stopped o }) was)) (holds.goes it m (stopped m) was refl refl refl refl)
 
   -- ---- all invocations
 
@@ -239,7 +244,7 @@ module _ {H : Type 0} (P : Invocation H → Invocation H → Type 0) (May : Memb
 
   begins : (may : Bool) (place : ℕ) (old new : Engine H) → BeginsIf may place old new → AllHold P old new
   begins false place old new d = no_change old new d
-  begins true place old new d = goes_at place (GoesBy (BeginsRound whole_round)) old new (λ m m' h. (ap (λ (c : CourseView _). c.journal) h.1.same, ap (λ (z : MemberView _). z.waiting) h.0, ap (λ (z : MemberView _). z.next) h.0)) d
+  begins true place old new d = goes_at place (GoesBy (BeginsRound whole_round)) old new (λ m m' h. (ap (λ (c : CourseView _). c.journal) h.1.same, ap (λ (z : MemberView _). z.waiting) h.0, ap (λ (z : MemberView _). z.next) h.0, ap (λ (c : CourseView _). c.setting.options) h.1.same)) d
 
   delivered : (meaning : H → Meaning) (place at : ℕ) (o : Option Brought) (old new : Engine H) → MayCome May old place at → brought_at old place at ≡ o → DeliversIf meaning place at o old new → AllHold P old new
   delivered meaning place at None old new may is d = no_change old new d
@@ -264,7 +269,7 @@ module _ {H : Type 0} (P : Invocation H → Invocation H → Type 0) (May : Memb
   event_holds meaning (happening.Act place e) old new may d = goes_at place (λ (m : MemberView H). Acts (meaning m.course.handler) e m) old new (λ m m' k. acts_keep (meaning m.course.handler) e m m' k) d
   event_holds meaning (happening.Deliver place at) old new may d = delivered meaning place at (brought_at old place at) old new may refl d
   event_holds meaning (happening.Store place) old new may d = hold_then old d.mid new (changes place (StoresIn meaning d.asks) old d.mid (λ a b was h. stores_one meaning d.asks a b h) d.stores) (performs place d.asks d.mid new d.performs)
-  event_holds meaning (happening.Stop place) old new may d = goes_at place (λ a b. b ≡ stopped a) old new (λ m m' is. (ap (λ (z : MemberView H). z.course.journal) is, ap (λ (z : MemberView H). z.waiting) is, ap (λ (z : MemberView H). z.next) is)) d
+  event_holds meaning (happening.Stop place) old new may d = goes_at place (λ a b. b ≡ stopped a) old new (λ m m' is. (ap (λ (z : MemberView H). z.course.journal) is, ap (λ (z : MemberView H). z.waiting) is, ap (λ (z : MemberView H). z.next) is, ap (λ (z : MemberView H). z.course.setting.options) is)) d
   event_holds meaning happening.StopAll old new may d = record {
     targets = ap (λ (e : Engine H). e.targets) d.0;
     each = λ i it was. (stopped_in it, ap (λ l. slice_get l i) d.1 ∙ slice_get-map stopped_in old.invocations.items i ∙ ap (option_map stopped_in) was, stops it);

@@ -149,7 +149,7 @@ stays_in_line : {H : Type 0} → Holds (InLine {H = H}) IsFirstSignal
 stays_in_line {H} = record {
   same = λ it. line_kept it it refl;
   next = line_then;
-  goes = λ it m m' was journal waits ids. line_same it m m' was (both (signals_came m'.course.journal) (signals_came m.course.journal) (signals_waiting m'.waiting) (signals_waiting m.waiting) (ap signals_came journal) (ap signals_waiting waits));
+  goes = λ it m m' was journal waits ids options. line_same it m m' was (both (signals_came m'.course.journal) (signals_came m.course.journal) (signals_waiting m'.waiting) (signals_waiting m.waiting) (ap signals_came journal) (ap signals_waiting waits));
   gets = λ it m s was. line_on it m (with_signal s.signal s.brings m) (signal_note s.signal s.brings ∷ []) was
       (ap (λ l. signals_came m.course.journal ++ l) (waits_more m.waiting (waiting.Signal s.signal s.brings)) ∙ sym (append_assoc (signals_came m.course.journal) (signals_waiting m.waiting) (signal_note s.signal s.brings ∷ [])));
   comes = λ it m m' at w b f was going there first d. line_comes it m m' at w b f was there first d;

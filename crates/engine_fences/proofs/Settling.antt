@@ -49,7 +49,7 @@ so_stays : {H : Type 0} → Holds (StaysEnded {H = H}) Any
 so_stays {H} = record {
   same = λ it. record { key = refl; target = refl; ended = λ e. (e, refl) };
   next = ended_then;
-  goes = λ it m m' was journal waits ids. rounds_change it m m' was (λ e. journal);
+  goes = λ it m m' was journal waits ids options. rounds_change it m m' was (λ e. journal);
   gets = λ it m s was. rounds_change it m _ was (λ e. refl);
   comes = λ it m m' at w b f was going waits may d. rounds_change it m m' was (λ e. absurd (not_both (is_some it.ended) going e));
   stores = λ it m m' asks f was going d. rounds_change it m m' was (λ e. absurd (not_both (is_some it.ended) going e));

@@ -6,15 +6,16 @@ use Rattle.engines.specs.declared.types.Happening.{Happening}
 use Rattle.engines.specs.Between.{AllKept}
 use Rattle.engines.specs.Engines.{AllHappen, HappeningDoes}
 use Rattle.engines.specs.Replaying.{AllReplay}
+use Rattle.world_rounds.specs.Rounds.{ReplaysAndQueues}
 use Rattle.engines.proofs.Keeping.{kept_from_nothing}
 use Rattle.engines.proofs.Replaying.{all_replay}
 use Rattle.engine_fences.specs.declared.fences.Asked.{Asked}
 use Rattle.engine_fences.specs.declared.fences.FencedEngine.{FencedEngine}
 use Rattle.engine_fences.specs.Causes.{InboxesHaveCauses}
-use Rattle.engine_fences.specs.Completions.{CompletionsAreAskedFor}
+use Rattle.engine_fences.specs.Completions.{CompletionsAreAskedFor, CompletionsAreOwn}
 use Rattle.engine_fences.specs.Fences.{AllFenced, FencedIf, grants}
 use Rattle.engine_fences.specs.Signals.{NoneFromNowhere}
-use Rattle.engine_fences.proofs.Completing.{completions_asked}
+use Rattle.engine_fences.proofs.Completing.{completions_asked, completions_own}
 use Rattle.engine_fences.proofs.Inboxes.{inboxes_caused}
 use Rattle.engine_fences.proofs.Signalling.{none_from_nowhere}
 
@@ -57,6 +58,11 @@ pub fenced_completions : {H : Type 0} (meaning : H → Meaning) (es : List Asked
 fenced_completions meaning es old new none h =
     let g = are_granted meaning es old new h in
     completions_asked meaning g.events old.engine new.engine none g.happen
+
+pub fenced_own : {H : Type 0} (meaning : H → Meaning) (es : List Asked) (old new : FencedEngine H) → old.engine.invocations.items ≡ [] → ReplaysAndQueues old.engine.options → AllFenced meaning es old new → CompletionsAreOwn new.engine
+fenced_own meaning es old new none r h =
+    let g = are_granted meaning es old new h in
+    completions_own meaning g.events old.engine new.engine none r g.happen
 
 -- and all attempts go on to replay and queue
 pub fenced_replay : {H : Type 0} (meaning : H → Meaning) (es : List Asked) (old new : FencedEngine H) → AllFenced meaning es old new → AllReplay old.engine → AllReplay new.engine

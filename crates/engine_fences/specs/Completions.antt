@@ -45,19 +45,46 @@ pub record IsAskedFor (journal : List (List ℕ)) (id : ℕ) (r : NotificationRe
   pub stored : IsOneOf command (said_in journal)
   pub completes : IsCompletionOf command id r
 
+-- A call's, a one-way call's and a sleep's ids are completed as above, and that of a run by a value
+-- or a failure. The ids of other commands are completed by nothing.
+abbrev pub IsOwnCompletionOf : Message → ℕ → NotificationResult → Type 0
+IsOwnCompletionOf (message.Call c) id r = IsCompletionOf (message.Call c) id r
+IsOwnCompletionOf (message.OneWayCall c) id r = IsCompletionOf (message.OneWayCall c) id r
+IsOwnCompletionOf (message.Sleep c) id r = IsCompletionOf (message.Sleep c) id r
+IsOwnCompletionOf (message.Run c) id r = (id ≡ c.result_completion_id) × BringsResult r
+IsOwnCompletionOf m id r = ⊥
+
+-- A stored call, one-way call, sleep or run carries the id, and this completes it.
+pub record IsOfOwnCommand (journal : List (List ℕ)) (id : ℕ) (r : NotificationResult) : Type 0 where
+  pub command : Message
+  pub stored : IsOneOf command (said_in journal)
+  pub completes : IsOwnCompletionOf command id r
+
 -- ---- an engine
+
+-- so it is with each completion of a journal, by the entries before it
+abbrev pub EachCompletion : (List (List ℕ) → ℕ → NotificationResult → Type 0) → List (List ℕ)
+    → Type 0
+EachCompletion So journal = (before : List (List ℕ)) (entry : List ℕ) (after : List (List ℕ))
+    → journal ≡ before ++ entry ∷ after → (n : Notification) (id : ℕ) → note_in entry ≡ Some n
+    → n.id ≡ CompletionId id → So before id n.result
 
 -- each completion of a journal is of an id that a command before it carries, and of its kind
 abbrev pub CompletionsFollow : List (List ℕ) → Type 0
-CompletionsFollow journal = (before : List (List ℕ)) (entry : List ℕ) (after : List (List ℕ))
-    → journal ≡ before ++ entry ∷ after → (n : Notification) (id : ℕ) → note_in entry ≡ Some n
-    → n.id ≡ CompletionId id → IsAskedFor before id n.result
+CompletionsFollow journal = EachCompletion IsAskedFor journal
 
 -- so it is with each invocation's journal
 abbrev pub CompletionsAreAskedFor : {H : Type 0} → Engine H → Type 0
 CompletionsAreAskedFor {H} e = (by : ℕ) (it : Invocation H) (m : MemberView H)
     → slice_get e.invocations.items by ≡ Some it → it.member ≡ Some m
     → CompletionsFollow m.course.journal
+
+-- each completion of each journal is of a call, a one-way call, a sleep or a run that is stored
+-- before it
+abbrev pub CompletionsAreOwn : {H : Type 0} → Engine H → Type 0
+CompletionsAreOwn {H} e = (by : ℕ) (it : Invocation H) (m : MemberView H)
+    → slice_get e.invocations.items by ≡ Some it → it.member ≡ Some m
+    → EachCompletion IsOfOwnCommand m.course.journal
 
 -- each id that a command of a journal carries is greater than all before it
 abbrev pub IdsRise : {H : Type 0} → Engine H → Type 0

@@ -5,7 +5,7 @@ ghost use Rattle.engine_inboxes.specs.Faults.{IsMemoryOrFull, IsNoArrival};
 ghost use Rattle.engines.specs.Replaying.{AllReplay};
 ghost use Rattle.world_rounds.specs.Rounds.{ReplaysAndQueues};
 ghost use Rattle.engine_fences.specs.Causes.{InboxesHaveCauses};
-ghost use Rattle.engine_fences.specs.Completions.{CompletionsAreAskedFor};
+ghost use Rattle.engine_fences.specs.Completions.{CompletionsAreAskedFor, CompletionsAreOwn};
 ghost use Rattle.engine_fences.specs.Signals.{NoneFromNowhere};
 ghost use Rattle.engine_fences.specs.Fences.{AllFenced, FencedDoes, NamesEpoch, grants};
 
@@ -134,6 +134,8 @@ pub fn play_fenced<'a, H: Handler + Drop>(
     ensures inboxes { IfOk result (λ f. InboxesHaveCauses f.engine) }
     // Each completion in a journal is of an id that a stored command before it carries, and of this command's kind.
     ensures completions { IfOk result (λ f. CompletionsAreAskedFor f.engine) }
+    // If recorded commands are replayed and signals queue, it completes a call, a one-way call, a sleep or a run.
+    ensures own { IfOk result (λ f. ReplaysAndQueues options → CompletionsAreOwn f.engine) }
     // No arrival has a fault.
     ensures err { IfErr result IsNoArrival }
     // If recorded commands are replayed and signals queue, out of memory and a full journal are the only faults.

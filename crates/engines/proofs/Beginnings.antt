@@ -1,5 +1,5 @@
 -- How an invocation's journal began, and what follows of it: one run of its handler made the journal, so the ids of its commands rise.
-use Rattle.std.proofs.Common.{◌≡◌, inl, inr, ℕ, ◌+◌, ◌<◌, ◌≤◌, Bool, true, false, List, [], ◌∷◌, ◌++◌, length, take, Option, Some, None, refl, sym, ap, ◌∙◌, subst, append-nil, append_assoc, arith}
+use Rattle.std.proofs.Common.{◌≡◌, ◌⊎◌, inl, inr, ℕ, ◌+◌, ◌<◌, ◌≤◌, Bool, true, false, List, [], ◌∷◌, ◌++◌, length, take, Option, Some, None, refl, sym, ap, ◌∙◌, subst, append-nil, append_assoc, arith}
 use Rattle.std.specs.Prelude.{◌||◌, slice_get, nat_lt, if◌then◌else◌}
 use Rattle.std.specs.List.{AllByRecursion}
 use Rattle.std.specs.Option.{option_and_then}
@@ -32,17 +32,18 @@ use Rattle.world_rounds.specs.Worlds.{setup_of}
 use Rattle.world_rounds.proofs.Completing.{input_carries_none}
 use Rattle.world_rounds.proofs.First.{first_made}
 use Rattle.world_rounds.proofs.Rising.{Rises, told_rises}
+use Rattle.engine_effects.specs.declared.effect.Effect.{Effect}
 use Rattle.engine_inboxes.specs.declared.types.InboxFault.{InboxFault}
 use Rattle.engine_inboxes.specs.declared.types.InboxFault.TheVariants as inbox_fault
 use Rattle.engine_inboxes.specs.declared.types.Waiting.{Waiting}
 use Rattle.engine_inboxes.specs.declared.types.Waiting.TheVariants as waiting
-use Rattle.engine_inboxes.specs.Deliverable.{CanCome, Deliverable, Entered, EntryFaults, IsUnknownFrom, Known, TakesOut, completes_waited, id_is_waited, is_waited, kind_of, known_in, past_said, waits_for_id}
+use Rattle.engine_inboxes.specs.Deliverable.{CanCome, Deliverable, Entered, EntryFaults, IsProposedApart, IsUnknownFrom, Known, TakesOut, completes_waited, effect_at, id_is_waited, is_waited, kind_of, known_in, past_said, waits_for_id}
 use Rattle.engine_inboxes.specs.Ids.{carried_pair, past_new, past_new_along, past_new_ids}
 use Rattle.engine_inboxes.proofs.Coming.{id_listed, listed, none_some, note_said, said_append}
 use Rattle.engines.specs.Beginnings.{BeganWithInput, IsPastAll, IsWholeInput, MemberLasts, entry_of_input}
 use Rattle.journal_entries.specs.declared.fault.JournalFault.{JournalFault}
 use Rattle.engine_inboxes.specs.Faults.{IsMemoryOrFull, fault_of_entry, fault_of_store}
-use Rattle.engines.specs.Members.{MayStoreOne, case_in}
+use Rattle.engines.specs.Members.{MayStoreOne, MemberView, NoEntry, StoresEntry, StoresNextEntry, case_in}
 use Rattle.engines.proofs.Among.{get_left}
 use Rattle.engines.proofs.Storing.{input_said}
 
@@ -240,6 +241,10 @@ run_unwaited (Some n) journal ws next d is h = by n.id is h
     by (SignalId id) is h = absurd is
     by (SignalName name) is h = absurd is
 
+-- the one entry by which a journal has grown is of a run, if it is no command
+pub one_of_run : (old new : List (List ℕ)) (x : List ℕ) → AddRunsAlone old new → new ≡ old ++ x ∷ [] → IsOfRun (note_in x) old
+one_of_run old new x runs more = subst (IsOfRun (note_in x)) (append-nil old) (runs [] x [] (more ∙ ap (λ j. j ++ x ∷ []) (sym (append-nil old))))
+
 -- After a store the journal can be replayed, so the ids of its commands rise: the last one's were new. What is no command is the result of a run.
 memory_alone : {H : Type 0} (m : Meaning) (c : CourseView H) (old : List (List ℕ)) (ws : List Waiting) (next : ℕ) (f : InboxFault) → MayStoreOne old c.journal → AddRunsAlone old c.journal → Deliverable old ws next → IsPastAll old next → IsReplayable (case_in m c) c.journal → (length c.journal ≡ length old → ⊥)
     → ((x : List ℕ) → c.journal ≡ old ++ x ∷ [] → EntryFaults x ws next f) → IsMemoryOrFull (fault_of_entry f)
@@ -248,7 +253,7 @@ memory_alone m c old ws next inbox_fault.NotARun may runs d past sound some faul
   where
     by : MayStoreOne old c.journal → ⊥
     by (inl same) = some (ap length same)
-    by (inr (x, more, carries)) = run_unwaited (note_in x) old ws next d (subst (IsOfRun (note_in x)) (append-nil old) (runs [] x [] (more ∙ ap (λ j. j ++ x ∷ []) (sym (append-nil old))))) (faults x more).1
+    by (inr (x, more, carries)) = run_unwaited (note_in x) old ws next d (one_of_run old c.journal x runs more) (faults x more).1
 memory_alone m c old ws next inbox_fault.IdNotNew may runs d past sound some faults = absurd (by may)
   where
     by : MayStoreOne old c.journal → ⊥
@@ -276,3 +281,23 @@ module _ {H : Type 0} (m : Meaning) (old c : CourseView H) (ws : List Waiting) (
       let after : BeganWithInput c.given c.journal = began_after m (event.Store 1) old.live old c h may l.began in
       let replays : ReplaysAndQueues c.setting.options = subst (λ (w : Setting). ReplaysAndQueues w.options) (sym (happens_setting m (event.Store 1) old.live old c h)) r in
       memory_alone by c old.journal ws next f may (runs (first_replayable m old l.began r)) l.waits l.ids (history (first_replayable by c after replays)) (λ e. some (ap length is ∙ e ∙ sym count)) (λ x e. faults old.journal x (sym count) (is ∙ e))
+
+-- what a store did, as callers see it
+module _ {H : Type 0} (f : H → Meaning) (v : MemberView H) (course : CourseView H) (ws : List Waiting) (next : ℕ) (new : MemberView H) (asks : Option Effect) (is : record { course = course; waiting = ws; next = next } ≡ v) (l : MemberLasts course.given course.journal ws next) (h : HappensTo (f course.handler) (event.Store 1) course.live course new.course) (may : MayStoreOne course.journal new.course.journal)
+    (before : ℕ) (count : before ≡ length course.journal) (seen : List (List ℕ)) (same : seen ≡ new.course.journal) where
+  pub store_seen : (IsReplayable (case_in (f course.handler) course) (take course.given course.journal) → AddRunsAlone course.journal new.course.journal) → (length seen ≡ before → (new.waiting ≡ ws) × (new.next ≡ next)) → (length seen ≡ before → asks ≡ None)
+      → ((o : List (List ℕ)) (x : List ℕ) → length o ≡ before → seen ≡ o ++ x ∷ [] → Entered x ws next new.waiting new.next) → ((o : List (List ℕ)) (x : List ℕ) → length o ≡ before → seen ≡ o ++ x ∷ [] → IsProposedApart x ws) → ((o : List (List ℕ)) (x : List ℕ) → length o ≡ before → seen ≡ o ++ x ∷ [] → asks ≡ effect_at x)
+      → StoresNextEntry (f v.course.handler) v new asks
+  store_seen runs none quiet entered apart effect =
+      subst (λ (x : MemberView H). StoresNextEntry (f x.course.handler) x new asks) is
+      (record { course = h; entry = by may; runs = λ r. runs (first_replayable (f course.handler) course l.began r) })
+    where
+      by : MayStoreOne course.journal new.course.journal → NoEntry (record { course = course; waiting = ws; next = next }) new asks ⊎ StoresEntry (record { course = course; waiting = ws; next = next }) new asks
+      by (inl e) = inl (record { stored = e; stays = none (ap length same ∙ ap length e ∙ sym count); effect = quiet (ap length same ∙ ap length e ∙ sym count) })
+      by (inr (x, more, carries)) = inr (record {
+        entry = x;
+        stored = more;
+        entered = entered course.journal x (sym count) (same ∙ more);
+        effect = effect course.journal x (sym count) (same ∙ more);
+        apart = apart course.journal x (sym count) (same ∙ more);
+      })

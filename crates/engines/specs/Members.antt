@@ -11,6 +11,8 @@ use Rattle.engine_inboxes.specs.declared.types.Brought.{Brought}
 use Rattle.engine_inboxes.specs.Notes.{note_by}
 use Rattle.world_rounds.specs.Course.{CourseView, HappensTo}
 use Rattle.world_rounds.specs.Guarantees.{Case}
+use Rattle.world_rounds.specs.Outside.{AddRunsAlone}
+use Rattle.world_rounds.specs.Rounds.{ReplaysAndQueues}
 use Rattle.world_rounds.specs.declared.types.Event.{Event}
 use Rattle.world_rounds.specs.declared.types.Event.TheVariants as event
 use Rattle.engine_inboxes.specs.Deliverable.{Entered, IsProposedApart, MayBeStored, effect_at}
@@ -78,12 +80,16 @@ pub record NoEntry {H : Type 0} (old new : MemberView H) (asks : Option Effect) 
   pub stays : (new.waiting ≡ old.waiting) × (new.next ≡ old.next)
   pub effect : asks ≡ None
 
--- The next entry that the attempt wrote is stored, if an attempt lives and wrote one.
+-- The next entry that the attempt wrote is stored, if an attempt lives and wrote one. If recorded
+-- commands are replayed and signals queue, it is a command, or the result of a run whose command is
+-- stored.
 pub record StoresNextEntry {H : Type 0} (m : Meaning) (old new : MemberView H)
     (asks : Option Effect)
     : Type 0 where
   pub course : HappensTo m (event.Store 1) old.course.live old.course new.course
   pub entry : NoEntry old new asks ⊎ StoresEntry old new asks
+  pub runs : ReplaysAndQueues old.course.setting.options
+      → AddRunsAlone old.course.journal new.course.journal
 
 -- ---- a delivery
 

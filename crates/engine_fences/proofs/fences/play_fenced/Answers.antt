@@ -1,4 +1,4 @@
-use Rattle.std.proofs.Common.{ap, ◌∙◌}
+use Rattle.std.proofs.Common.{sym, ap, ◌∙◌, subst}
 use Rattle.engines.specs.declared.engine.Engine.{Engine}
 use Rattle.engines.proofs.Storing.{if_ok_then}
 use Rattle.engines.specs.Between.{AllKept}
@@ -8,9 +8,9 @@ use Rattle.world_rounds.specs.Rounds.{ReplaysAndQueues}
 use Rattle.engine_fences.specs.declared.fences.FencedEngine.{FencedEngine}
 use Rattle.engine_fences.specs.Fences.{AllFenced}
 use Rattle.engine_fences.specs.Causes.{InboxesHaveCauses}
-use Rattle.engine_fences.specs.Completions.{CompletionsAreAskedFor}
+use Rattle.engine_fences.specs.Completions.{CompletionsAreAskedFor, CompletionsAreOwn}
 use Rattle.engine_fences.specs.Signals.{NoneFromNowhere}
-use Rattle.engine_fences.proofs.Unseen.{fenced_completions, fenced_inboxes, fenced_kept, fenced_signals}
+use Rattle.engine_fences.proofs.Unseen.{fenced_completions, fenced_inboxes, fenced_kept, fenced_own, fenced_signals}
 use Rattle.engine_fences.proofs.fences.play_fenced.Goals as goal
 
 pub returns-clause-kept : goal.returns-clause-kept
@@ -24,6 +24,11 @@ returns-clause-inboxes g c = if_ok_then c.run_fenced.result (AllFenced (λ h. g.
 
 pub returns-clause-completions : goal.returns-clause-completions
 returns-clause-completions g c = if_ok_then c.run_fenced.result (AllFenced (λ h. g.H.Handler.meaning h) c.args.events.now c.of.result) (λ (f : FencedEngine _). CompletionsAreAskedFor f.engine) (λ f d. fenced_completions (λ h. g.H.Handler.meaning h) c.args.events.now c.of.result f (ap (λ (e : Engine _). e.invocations.items) c.of.ensures ∙ c.new-engine.ensures.none) d) c.run_fenced.ensures.does
+
+pub returns-clause-own : goal.returns-clause-own
+returns-clause-own g c = if_ok_then c.run_fenced.result (AllFenced (λ h. g.H.Handler.meaning h) c.args.events.now c.of.result) (λ (f : FencedEngine _). ReplaysAndQueues c.args.options → CompletionsAreOwn f.engine)
+    (λ f d r. fenced_own (λ h. g.H.Handler.meaning h) c.args.events.now c.of.result f (ap (λ (e : Engine _). e.invocations.items) c.of.ensures ∙ c.new-engine.ensures.none)
+    (subst ReplaysAndQueues (sym (ap (λ (e : Engine _). e.options) c.of.ensures ∙ c.new-engine.ensures.options)) r) d) c.run_fenced.ensures.does
 
 pub returns-clause-replaying : goal.returns-clause-replaying
 returns-clause-replaying g c = premise_then (AllReplay c.of.result.engine) (ReplaysAndQueues c.args.options) c.run_fenced.result
