@@ -30,6 +30,8 @@ pub mod Unfinished
 pub mod Faultless
 pub mod RightKinds
 pub mod Fed
+pub mod Moving
+pub mod Executions
 pub mod Honestly
 pub mod Owning
 pub mod Takeover

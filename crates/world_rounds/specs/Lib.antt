@@ -7,6 +7,7 @@ pub mod Inside
 pub mod Fresh
 pub mod Sound
 pub mod Owning
+pub mod Executions
 pub mod Guarantees
 pub mod Executing
 pub mod Families

@@ -1,15 +1,16 @@
 -- A world: whose invocation it is, and its journal; and the Start of each round.
-use Rattle.std.specs.Prelude.{◌≤◌, ℕ, List, [], length, map, false, string_bytes}
+use Rattle.std.specs.Prelude.{◌≤◌, ℕ, List, [], length, map, if◌then◌else◌, string_bytes}
 use Rattle.std.proofs.Common.{Global}
 use Rattle.std.specs.declared.string.String.{String}
 use Rattle.journal_protocol.specs.Message.{Message}
 use Rattle.journal_protocol.specs.Message.TheVariants as message
 use Rattle.journal_protocol.specs.Start.{Start}
+use Rattle.journal_protocol.specs.Versions.{is_from_v6, is_from_v7}
+use Rattle.vm_parts.specs.Starts.{from_version}
 use Rattle.vm_model.specs.Calls.{Meaning, Setup}
 use Rattle.vm_model.specs.Carried.{AreCarried}
 use Rattle.vm_model.specs.Fixed.{Fixed, fixed_by}
 use Rattle.journal_entries.specs.JournalFrames.{commands_among}
-use Rattle.vm_model.specs.Setups.{setup_with}
 use Rattle.journal_entries.specs.Completions.{CompleteOnce, EachOfItsKind}
 use Rattle.world_rounds.specs.declared.types.Identity.{Identity}
 use Rattle.world_rounds.specs.declared.types.Round.{Round}
@@ -65,8 +66,20 @@ start_message w round journal = message.Start (start_for w round journal)
 abbrev pub fixed_in : Meaning → Setting → Fixed
 fixed_in handler w = fixed_by handler w.version w.options
 
--- the setup of all attempts of a world, by which the handler's run goes
+-- The setup of all attempts of a world, by which the handler's run goes. Before V6 the options'
+-- seed is the handler's, and before V7 it is given no scope, limit key or idempotency key.
 abbrev pub setup_of : Setting → Setup
-setup_of w = setup_with w.version w.options
-    (start_of w.identity []
-    (record { partial = false; keys = []; retry_count = 0; duration = 0; events = [] }) 0)
+setup_of w = record {
+  version = w.version;
+  options = w.options;
+  identity = record {
+    id = w.identity.id;
+    debug_id = w.identity.debug_id;
+    key = w.identity.key;
+    random_seed =
+        if is_from_v6 w.version then w.identity.random_seed else w.options.fallback_random_seed;
+    scope = from_version (is_from_v7 w.version) w.identity.scope;
+    limit_key = from_version (is_from_v7 w.version) w.identity.limit_key;
+    idempotency_key = from_version (is_from_v7 w.version) w.identity.idempotency_key;
+  };
+}

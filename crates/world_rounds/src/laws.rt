@@ -15,10 +15,21 @@ ghost use Rattle.world_rounds.specs.declared.types.Round.{Round};
 ghost use Rattle.world_rounds.specs.declared.types.Setting.{Setting};
 ghost use Rattle.await_trees.specs.declared.handle.NotificationHandle.{NotificationHandle};
 ghost use Rattle.world_rounds.specs.Executing.{Executes, IsUnfinished};
+ghost use Rattle.world_rounds.specs.Executions.{IsOneExecution};
 ghost use Rattle.world_rounds.specs.Families.{AreAlikeTo, EachCanReplay, EachIsOwn, NoneIsPartial, Played, PlayedDo, played_by};
 ghost use Rattle.world_rounds.specs.Guarantees.{AttemptsAgree, HasOneResultEach, HasRightReads, IsExactlyOnce, IsExactlyOnceAlike, IsHistory, IsReplayable, IsUninterrupted, IsUninterruptedAlike};
 ghost use Rattle.world_rounds.specs.Origins.{NothingIsInvented};
 ghost use Rattle.world_rounds.specs.Rounds.{ReplaysAndQueues, ReportView, RoundsDo};
+
+/// One execution of a handler made a journal exactly if one run did, as the model of replay has it: a run in which nothing is
+/// recorded.
+pub fn executions_are_runs()
+    ensures run { (m : Meaning) (w : Setting) (journal : List (List ℕ))
+        → IsOneExecution m w journal → IsExactlyOnce (record { handler = m; setting = w }) journal }
+    ensures execution { (m : Meaning) (w : Setting) (journal : List (List ℕ))
+        → IsExactlyOnce (record { handler = m; setting = w }) journal
+        → IsOneExecution m w journal }
+{}
 
 /// A new version of a handler takes over where it makes the same calls as the old one after all answers that the journal tells:
 /// then what the journal is for the old version it is for the new one, and rounds of the new one keep it.

@@ -19,9 +19,9 @@ mod world;
 
 pub use course::Course;
 pub use laws::{
-    alike_versions_take_over, compared_histories_can_be_replayed, families_keep_histories,
-    finished_runs_are_not_executed, finished_stays_finished, journals_go_on_in_version_8,
-    nothing_is_invented, versions_take_over,
+    alike_versions_take_over, compared_histories_can_be_replayed, executions_are_runs,
+    families_keep_histories, finished_runs_are_not_executed, finished_stays_finished,
+    journals_go_on_in_version_8, nothing_is_invented, versions_take_over,
 };
 pub use placed::{PlacedFault, StoppedRounds};
 pub use played::play_rounds;

@@ -1,8 +1,9 @@
 //! Rounds of a handler over a world's journal, one after another, up to the place of a fault.
 ghost use Rattle.std.specs.Prelude.{◌≡◌, ◌∷◌, [], ◌++◌, length, map, IfOk, IfErr, if◌then◌else◌};
 ghost use Rattle.vm_model.specs.Histories.{IsPrefix};
+ghost use Rattle.world_rounds.specs.Executions.{IsOneExecution};
 ghost use Rattle.world_rounds.specs.Fresh.{Skips};
-ghost use Rattle.world_rounds.specs.Guarantees.{AttemptsAgree, CanBeReplayed, ErrorsAreTheirOwn, FaultsComeFromOutside, HasOneResultEach, HasRightKinds, IdsAreNew, IsExactlyOnce, IsReplayable, IsUninterrupted, Lasts, RoundsAreHonest, StopsComeFromOutside, case_of, told};
+ghost use Rattle.world_rounds.specs.Guarantees.{AttemptsAgree, CanBeReplayed, ErrorsAreTheirOwn, FaultsComeFromOutside, HasOneResultEach, HasRightKinds, IdsAreNew, IsReplayable, IsUninterrupted, Lasts, RoundsAreHonest, StopsComeFromOutside, case_of, told};
 ghost use Rattle.world_rounds.specs.Inside.{report_view};
 ghost use Rattle.world_rounds.specs.Places.{RoundsStop};
 ghost use Rattle.world_rounds.specs.Rounds.{AreWhole, ReplaysAndQueues, RoundsDo, RoundsFault};
@@ -98,7 +99,8 @@ pub fn play_rounds<H: Handler>(
     // If one run of the handler made the journal, as it made that of a new world, then one run of
     // it makes the new journal, each command once.
     ensures one_run { IfOk result (λ r. ReplaysAndQueues world.setting.options
-        → Lasts (IsExactlyOnce (case_of (H.meaning handler.now) world)) world r.0) }
+        → IsOneExecution (H.meaning handler.now) world.setting world.journal
+        → IsOneExecution (H.meaning handler.now) world.setting r.0.journal) }
     // If no round is partial, the commands stay those of a run that nothing interrupted: where the
     // rounds stopped leaves no trace.
     ensures undisturbed { IfOk result (λ r. ReplaysAndQueues world.setting.options

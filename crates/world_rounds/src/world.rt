@@ -86,9 +86,10 @@ fn base_pairs(
 impl World {
     ghost use Rattle.std.specs.Prelude.{◌≡◌, ◌≢◌, ◌⊎◌, [], ◌∷◌, IfOk, IfErr, OnOk};
     ghost use Rattle.journal_entries.specs.Given.{AreGiven, GivenFaults};
+    ghost use Rattle.world_rounds.specs.Executions.{IsOneExecution};
     ghost use Rattle.world_rounds.specs.Guarantees.{CanBeReplayed, HasRightKinds};
     ghost use Rattle.vm_model.specs.Calls.{Meaning};
-    ghost use Rattle.vm_model.specs.Histories.{Honest, Whole};
+    ghost use Rattle.vm_model.specs.Histories.{Whole};
     ghost use Rattle.vm_model.specs.HonestRounds.{IsOneRun};
     ghost use Rattle.journal_entries.specs.Entries.{journal_entries};
     ghost use Rattle.world_rounds.specs.States.{base_of};
@@ -118,10 +119,10 @@ impl World {
         ensures whole { OnOk result
             (IsWhole (message.Input (record { headers = []; value = input }))) }
         ensures err { IfErr result (λ f. f ≡ journal_fault.Memory) }
-        // For every handler one run made the journal, even if its calls know nothing of the state.
+        // For every handler one execution made the journal, even if its calls know nothing of the
+        // state.
         ensures one_run { IfOk result (λ w. (m : Meaning)
-            → IsOneRun (setup_of w.setting) m (Honest (base_of w.setting))
-            (journal_entries w.journal)) }
+            → IsOneExecution m w.setting w.journal) }
         ensures undisturbed { IfOk result (λ w. (m : Meaning)
             → IsOneRun (setup_of w.setting) m (Whole (base_of w.setting))
             (journal_entries w.journal)) }

@@ -7,6 +7,7 @@ use Rattle.world_rounds.specs.Worlds.{IsJournal, WorldView}
 use Rattle.world_rounds.specs.Sound.{IsSoundFor}
 use Rattle.world_rounds.proofs.Agreeing.{sound_rounds_agree}
 use Rattle.world_rounds.proofs.Completing.{completes_once}
+use Rattle.world_rounds.proofs.Executions.{execution_of, run_of}
 use Rattle.world_rounds.proofs.Faultless.{faults_come_from_outside, stops_come_from_outside}
 use Rattle.world_rounds.proofs.Freshness.{rounds_fresh}
 use Rattle.world_rounds.proofs.RightKinds.{history_kinds}
@@ -79,7 +80,10 @@ pub returns-clause-agree : goal.returns-clause-agree
 returns-clause-agree g c h = sound_rounds_agree (g.H.Handler.meaning c.args.handler.now) c.args.world.setting c.args.rounds.now c.args.world.journal (map report_view c.loop-round.reports.items) c.loop-round.journal h (before g c) (all g c)
 
 pub returns-clause-one_run : goal.returns-clause-one_run
-returns-clause-one_run g c r h = stays_one_run (g.H.Handler.meaning c.args.handler.now) c.args.world.setting c.args.rounds.now c.args.world.journal (map report_view c.loop-round.reports.items) c.loop-round.journal (before g c) (all g c) r h
+returns-clause-one_run g c r h =
+    let m = g.H.Handler.meaning c.args.handler.now in
+    let w = c.args.world.setting in
+    execution_of m w c.loop-round.journal (stays_one_run m w c.args.rounds.now c.args.world.journal (map report_view c.loop-round.reports.items) c.loop-round.journal (before g c) (all g c) r (run_of m w c.args.world.journal h))
 
 pub returns-clause-undisturbed : goal.returns-clause-undisturbed
 returns-clause-undisturbed g c r whole h = stays_undisturbed (g.H.Handler.meaning c.args.handler.now) c.args.world.setting c.args.rounds.now c.args.world.journal (map report_view c.loop-round.reports.items) c.loop-round.journal (before g c) (all g c) r whole h
