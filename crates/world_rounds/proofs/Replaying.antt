@@ -1,16 +1,7 @@
 -- What a replay of a world's journal shows: it is a history of the handler.
-use Rattle.std.proofs.Common.{◌≡◌, ◌≢◌, ⊎_elim, ℕ, List, [], ◌∷◌, ◌++◌, length, take, ◌≤◌, Result, Ok, Err, false, sym, ap, ◌∙◌, subst, append-nil, Global}
+use Rattle.std.proofs.Common.{◌≡◌, ◌≢◌, ⊎_elim, ℕ, List, [], ◌∷◌, ◌++◌, length, sym, ap, ◌∙◌, subst, append-nil}
 use Rattle.std.proofs.lemmas.Option.{same_Some}
 use Rattle.std.specs.List.{concat}
-use Rattle.std.specs.Result.{is_err}
-use Rattle.std.specs.declared.alloc.AllocError.{AllocError}
-use Rattle.journal_protocol.specs.Error.{Error}
-use Rattle.journal_protocol.specs.Version.{Version}
-use Rattle.vm_types.specs.declared.options.VMOptions.{VMOptions}
-use Rattle.vm_model.specs.Fixed.{fixed_by}
-use Rattle.vm_attempt.specs.declared.progress.Progress.{Progress}
-use Rattle.vm_attempt.proofs.Under.{step_fed}
-use Rattle.std.proofs.lemmas.List.{take_all}
 use Rattle.journal_protocol.specs.Start.{Start}
 use Rattle.journal_protocol.specs.RawMessage.{RawMessage}
 use Rattle.journal_protocol.specs.Notification.{Notification}
@@ -26,13 +17,11 @@ use Rattle.journal_entries.specs.JournalFrames.{as_entries}
 use Rattle.vm_model.specs.Moves.{Point}
 use Rattle.vm_model.proofs.Compared.{attempt_is_told}
 use Rattle.vm_attempt.specs.Journals.{setup_for}
-use Rattle.vm_attempt.specs.Told.{Journal, MovesTo, ProvesHistory, ReplayPremises, arrivals, bytes_fed, bytes_in, start_state}
+use Rattle.vm_attempt.specs.Told.{Journal, MovesTo, ProvesHistory, ReplayPremises, arrivals, bytes_fed, start_state}
 use Rattle.vm_attempt.proofs.Proving.{alone_arrivals}
 use Rattle.vm_attempt.proofs.Replayed.{commands_same, head_same, tail_same}
 use Rattle.invocation_vm.specs.Making.{made}
 use Rattle.vm_attempt.specs.Heard.{Heard}
-use Rattle.vm_attempt.specs.Record.{Record, heard}
-use Rattle.vm_attempt.specs.Stepping.{FeedDoes, StepDoes, fresh_record}
 use Rattle.world_rounds.specs.declared.types.Round.{Round}
 use Rattle.world_rounds.specs.declared.types.Setting.{Setting}
 use Rattle.journal_entries.specs.Entries.{journal_entries, journal_frames}
@@ -96,38 +85,3 @@ module _ (m : Meaning) (w : Setting) (round : Round) (old : List (List ℕ)) (fe
       let J = h.journal in
       let reads : EagerFrom (base_of w) J.rest = subst (λ l. EagerFrom (base_of w) (after_head l)) (commands_same J.entries ∙ J.commands) (of_fed (λ z raws. EagerFrom (base_of w) (after_head (commands_in (as_entries raws)))) J eager) in
       of_world (λ z raws. History z m (base_of w) (as_entries raws)) J (h.history (is_alone J).others (base_of w) reads)
-
--- ---- an attempt that is fed this alone
-
--- a new attempt that was fed a piece was fed its bytes
-fed_bytes : (alloc : Global) (w : Setting) (piece : List ℕ) (a : Record) → FeedDoes false piece (fresh_record (made alloc w.options w.version)) (Ok tt) a → bytes_fed (heard w.version a) ≡ piece
-fed_bytes alloc w piece a does = ap (λ (r : Record). bytes_in r.fed) does ∙ append-nil piece
-
--- A new attempt was fed Start and the journal. If what it was fed proves its journal, under the premises of replay, the journal is a
--- history.
-pub alone_history : (alloc : Global) (m : Meaning) (w : Setting) (round : Round) (old : List (List ℕ)) (piece : List ℕ) (a b : Record) → IsJournal old → IsWhole (start_message w round old) → piece ≡ encoding (start_message w round old) ++ concat old
-    → FeedDoes false piece (fresh_record (made alloc w.options w.version)) (Ok tt) a → heard w.version b ≡ heard w.version a → (ReplayPremises (fixed_in m w) (heard w.version b) → ProvesHistory (fixed_in m w) (heard w.version b))
-    → ReplaysAndQueues w.options → CompletesOnce (setup_of w) m (journal_entries old) → EagerFrom (base_of w) (after_head (commands_in (journal_entries old))) → History (setup_of w) m (base_of w) (journal_entries old)
-alone_history alloc m w round old piece a b j whole is does same proves r once eager =
-    let fed = heard w.version b in
-    let bytes : bytes_fed fed ≡ encoding (start_message w round old) ++ concat old = ap bytes_fed same ∙ fed_bytes alloc w piece a does ∙ is in
-    world_history m w round old fed j whole bytes (proves (replay_premises m w round old fed j whole bytes r once)) eager
-
--- ---- as the check makes it
-
--- what an attempt was fed stays over a step
-pub step_heard : (m : Meaning) (version later : Version) (old : Record) (result : Result Progress Error) (new : Record) → StepDoes m old result new → later ≡ version → heard later new ≡ heard version old
-step_heard m version later old result new does same = ap (λ v. heard v new) same ∙ step_fed version m old result new does
-
-fed_well : (alloc : Global) (w : Setting) (piece : List ℕ) (first a : Record) (result : Result Unit AllocError) → first ≡ fresh_record (made alloc w.options w.version) → is_err result ≡ false → FeedDoes first.starved piece first result a → FeedDoes false piece (fresh_record (made alloc w.options w.version)) (Ok tt) a
-fed_well alloc w piece first a (Ok t) new well does = subst (λ (r : Record). FeedDoes r.starved piece r (Ok t) a) new does
-fed_well alloc w piece first a (Err e) new well does = absurd (cc)
-
-pub checked_history : (alloc : Global) (m : Meaning) (w : Setting) (round : Round) (old : List (List ℕ)) (n : ℕ) (waiting piece : List ℕ) (first a b : Record) (result : Result Unit AllocError) (m' : Meaning) (va vb : Version) (options : VMOptions) → IsJournal old → IsWhole (start_message w round old) → waiting ≡ encoding (start_message w round old) ++ concat old → piece ≡ take n waiting → length waiting ≤ n
-    → first ≡ fresh_record (made alloc w.options w.version) → is_err result ≡ false → FeedDoes first.starved piece first result a → heard vb b ≡ heard va a → va ≡ w.version → vb ≡ w.version → options ≡ w.options → m' ≡ m → (ReplayPremises (fixed_by m' vb options) (heard vb b) → ProvesHistory (fixed_by m' vb options) (heard vb b))
-    → ReplaysAndQueues w.options → CompletesOnce (setup_of w) m (journal_entries old) → EagerFrom (base_of w) (after_head (commands_in (journal_entries old))) → History (setup_of w) m (base_of w) (journal_entries old)
-checked_history alloc m w round old n waiting piece first a b result m' va vb options j whole bytes front long new well does same va_is vb_is options_is m_is proves r once eager =
-    let all : piece ≡ encoding (start_message w round old) ++ concat old = front ∙ take_all n waiting long ∙ bytes in
-    let heard_is : heard w.version b ≡ heard w.version a = ap (λ v. heard v b) (sym vb_is) ∙ same ∙ ap (λ v. heard v a) va_is in
-    let shows : ReplayPremises (fixed_in m w) (heard w.version b) → ProvesHistory (fixed_in m w) (heard w.version b) = subst (λ (z : Meaning × Version × VMOptions). ReplayPremises (fixed_by z.0 z.1 z.2) (heard z.1 b) → ProvesHistory (fixed_by z.0 z.1 z.2) (heard z.1 b)) (λ i. (m_is i, vb_is i, options_is i)) proves in
-    alone_history alloc m w round old piece a b j whole all (fed_well alloc w piece first a result new well does) heard_is shows r once eager

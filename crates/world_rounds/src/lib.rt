@@ -10,7 +10,6 @@ mod laws;
 mod place;
 mod placed;
 mod played;
-mod replay;
 mod round;
 mod rounds;
 mod types;
@@ -25,7 +24,6 @@ pub use laws::{
 };
 pub use placed::{PlacedFault, StoppedRounds};
 pub use played::play_rounds;
-pub use replay::can_replay;
 pub use rounds::run_rounds;
 pub use types::{Event, Identity, Report, Round, Setting};
 pub use world::World;
