@@ -197,15 +197,14 @@ def run(options: argparse.Namespace) -> int:
     crates = read_crates(TOP, [it.name for it in TOP.glob("crates/*") if has_tests(it)])
     crates = {name: crates[name] for name in tree.promising(crates)}
     tree.make(TOP, tree.place(), crates)
-    is_set = bool(options.jobs or named_lanes())
-    chain = chain_tree(crates, is_set)
+    chain = chain_tree(crates, is_set=bool(options.jobs or named_lanes()))
     proofs = Proofs(crates, {name: it for name, it in times.items() if name in crates})
     those = list(jobs(of_jobs, chain, options.after))
     at_a_time = options.jobs or lanes()
     how = f"{at_a_time} at a time, those of the longest chain first" if chain else f"{at_a_time} at a time"
     print(f"{len(crates)} crates, {how}; logs: {OUT}/logs", flush=True)
     show = ShowProofs(those, proofs, at_a_time, options.no_skips)
-    env = {**environment(TOP / OUT / "bin"), "RT_JOBS": str(at_a_time) if is_set else ""}
+    env = {**environment(TOP / OUT / "bin"), "RT_JOBS": str(at_a_time)}
     runner = Runner(those, options.jobs or cores(SMALL), Path(OUT, "logs"), show, env)
     try:
         done = runner.run()
