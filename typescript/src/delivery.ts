@@ -7,9 +7,14 @@ import type { Statements } from './tables';
 /** Puts a notification into an invocation's inbox, if it has one. What is for whichever goes on in its place is sent. */
 export async function deliver(to: Statements, invocation: string, frame: Uint8Array): Promise<boolean> {
   if ((await to.change('deliver', { invocation, frame })) === 0) return false;
+  await hasCome(to, invocation, frame);
+  return true;
+}
+
+/** An inbox has got a notification. */
+async function hasCome(to: Statements, invocation: string, frame: Uint8Array): Promise<void> {
   if (isCancel(frame)) await to.change('reach', { id: invocation, now: to.now });
   to.touch(invocation);
-  return true;
 }
 
 /** The invocation that goes on instead of another one, or else that one. */
@@ -23,9 +28,9 @@ export async function keep(to: Statements, invocation: string): Promise<void> {
 }
 
 /** Puts a signal or a cancellation into the inbox of an invocation, or of the one that goes on in its place. */
-export async function send(to: Statements, invocation: string, frame: Uint8Array): Promise<boolean> {
+export async function send(to: Statements, invocation: string, frame: Uint8Array): Promise<void> {
   await keep(to, invocation);
-  return deliver(to, await newest(to, invocation), frame);
+  for (const [id] of await to.rows('send', { invocation, frame })) await hasCome(to, String(id), frame);
 }
 
 /** One that has ended. */

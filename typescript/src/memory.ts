@@ -288,6 +288,14 @@ function append(tables: Tables, it: Given): Made {
   return changed(it.frames.length);
 }
 
+/** Puts a notification into an inbox. */
+function deliver(tables: Tables, it: Given): Made {
+  const isOpen = (tables.invocations.get(it.invocation)?.status ?? 'done') !== 'done';
+  const seq = tables.number();
+  if (isOpen) tables.inbox.put(seq, { seq, invocation: it.invocation, frame: it.frame, fresh: true });
+  return changed(Number(isOpen));
+}
+
 /** What the `ready`, `suspended` and `orphaned` statements give of a row. */
 function candidate(it: Invocation, ...more: unknown[]): Row {
   return [it.id, it.epoch, it.exclusive, it.key, ...more];
@@ -465,11 +473,10 @@ const STATEMENTS: Readonly<Record<Exclude<StatementName, 'now'>, Does>> = {
   grow: (to, it) => changed(to.set(it.id, isFenced(it), () => ({ entries: it.entries }))),
   progress: (to, it) => changed(to.set(it.id, (one) => one.epoch === it.epoch, () => PROGRESS)),
   steps: (to, it) => (to.set(it.id, isFenced(it), () => ({ entries: it.entries, ...PROGRESS })) === 0 ? changed(0) : append(to, it)),
-  deliver: (to, it) => {
-    const isOpen = (to.invocations.get(it.invocation)?.status ?? 'done') !== 'done';
-    const seq = to.number();
-    if (isOpen) to.inbox.put(seq, { seq, invocation: it.invocation, frame: it.frame, fresh: true });
-    return changed(Number(isOpen));
+  deliver,
+  send: (to, it) => {
+    const invocation = to.newest(it.invocation);
+    return rows(deliver(to, { ...it, invocation }).count === 0 ? [] : [[invocation]]);
   },
   keep: nothing,
   newest: (to, it) => rows([[to.newest(it.invocation)]]),

@@ -209,6 +209,9 @@ export const STATEMENTS = {
   'keep': [
     { text: "SELECT pg_advisory_xact_lock_shared(7401954, hashtext(COALESCE((SELECT chain FROM invocations WHERE id=$1::text), $1::text)) & 1023)", names: ["invocation"] },
   ],
+  'send': [
+    { text: "INSERT INTO inbox(invocation, frame) SELECT id, $1::bytea FROM invocations WHERE status<>'done' AND id=COALESCE((SELECT id FROM invocations WHERE id=$2::text AND continued IS NULL), (SELECT id FROM invocations WHERE chain=COALESCE((SELECT chain FROM invocations WHERE id=$2::text), $2::text) ORDER BY seq DESC LIMIT 1)) RETURNING invocation", names: ["frame", "invocation"] },
+  ],
   'result': [
     { text: "SELECT result FROM invocations WHERE id=$1::text FOR UPDATE", names: ["invocation"] },
   ],

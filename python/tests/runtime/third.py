@@ -90,8 +90,8 @@ class Store:
     def send(self, invocation: str, frame: bytes) -> None:
         """Delivers a signal, or a cancellation, to the newest of those that go on one after the other."""
         self.made("keep", invocation=invocation)
-        [(newest,)] = self.made("newest", invocation=invocation)
-        self.deliver(newest, frame)
+        for (newest,) in self.made("send", invocation=invocation, frame=frame):
+            self.made("tell", ids=[newest])
 
     def served(self, service: str, handler: str) -> dict[str, Any] | None:
         """What the workers say of a handler."""

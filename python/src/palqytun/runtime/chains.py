@@ -24,8 +24,9 @@ _MANY = 1024  # second numbers: so a transaction has no more locks than these, h
 _CHAIN = f"{_CHAINS}, hashtext(COALESCE((SELECT chain FROM invocations WHERE id=?), ?)) & {_MANY - 1}"
 _KEPT = Reading(f"SELECT pg_advisory_xact_lock_shared({_CHAIN})", "text", "text")
 _TAKEN = f"SELECT pg_advisory_xact_lock({_CHAIN})"
-_OWN = Reading("SELECT id FROM invocations WHERE id=? AND status<>'done'", "text")
-_LAST = Reading(f"SELECT id FROM invocations WHERE id=({NEWEST}) AND status<>'done'", *("text",) * 4)
+_OWN = Reading("SELECT id, status FROM invocations WHERE id=?", "text")
+# A status by a subquery, and no join: for many at once a server would join them with all that are open.
+_LAST = Reading(f"SELECT id, (SELECT status FROM invocations WHERE id=last.id) FROM ({NEWEST} AS id LIMIT 1) AS last", *("text",) * 4)
 
 
 def keep(db: Database, id: str) -> None:
@@ -48,7 +49,8 @@ async def send(db: Database, out: Outcome, id: str, notification: bytes) -> None
 
 @dataclass(frozen=True)
 class Delivery:
-    """A notification from outside, as an operation that begins by some reads. It is for this invocation, or for the one that goes on in its place."""
+    """A notification from outside, as an operation that begins by some reads. A signal or a cancellation is for this invocation, or for the one that goes on
+    in its place; another one is for this one alone."""
 
     out: Outcome
     id: str
@@ -63,6 +65,7 @@ class Delivery:
 
     async def then(self, db: Database, found: Sequence[list[Any]]) -> bool:
         """Puts it into the inbox; returns whether there is one."""
-        for (id,) in found[-1]:
+        those = [id for id, status in found[-1] if status not in (None, "done")]
+        for id in those:
             inbox.put(db, self.out, id, self.notification)
-        return bool(found[-1])
+        return bool(those)
