@@ -14,7 +14,7 @@ from pathlib import Path
 
 import palqytun
 from attempt import CONTENT_TYPE, begun, completion, fed, input_frame, sleep_frame, start
-from palqytun import VM, CommandType, Difference, JournalMismatch, VMError, _differing, first_completed
+from palqytun import VM, CommandType, Difference, JournalMismatch, VMError, _differing, content_type, first_completed
 from palqytun.frames import frame_of, line_of, split
 
 TOP = Path(__file__).resolve().parents[2]
@@ -27,13 +27,15 @@ AWAITS = "and the code awaits what hasn't come"
 CALL = 'Call service_name="Greeter" handler_name="greet" parameter="{}" invocation_id_notification_idx={} result_completion_id={}'
 
 
-def in_python(about: str) -> str | None:
-    """A line of --details as an exception's message; none if the error isn't about the journal. The ids that an await waits for are the VM's own."""
+def in_python(about: str) -> str:
+    """A line of --details as an exception's message. The ids that an await waits for are the VM's own."""
     if "UncompletedDoProgressDuringReplay" in about:
         error, _, waited = about.rpartition(": ")
         return f"{error}: {waited.partition('; ')[2]}, {AWAITS}"
-    about = about.replace("GetLazy", "Get").replace("GetEager", "Get")
-    return about if " is recorded " in about else None
+    if about.startswith("573 "):
+        error, _, lacks = about.rpartition(": ")
+        return f"{error} ({lacks})"
+    return about.replace("GetLazy", "Get").replace("GetEager", "Get")
 
 
 def told(steps: list[Step]) -> dict[int, str]:
@@ -62,12 +64,12 @@ class Rows(unittest.TestCase):
             steps = json.loads(suite.rows[0].json)["steps"]
             said, lines = told(steps), play.input.decode().splitlines()
             for line, about in play.details:
-                wanted, at = in_python(about), sum(not it.startswith("#") for it in lines[: line - 1])
-                if wanted is not None:
-                    with self.subTest(play.row, under=play.under):
-                        self.assertEqual(said[at].removesuffix(" (call sys_input first)"), wanted)
-                    count += 1
-        self.assertGreater(count, 70)
+                begun = sum(not it.startswith("#") for it in lines[: line - 1])
+                first = min(at for at in said if at >= begun)  # an error that is handed in is raised by the next call
+                with self.subTest(play.row, under=play.under):
+                    self.assertEqual(said[first].removesuffix(" (call sys_input first)"), in_python(about))
+                count += 1
+        self.assertGreater(count, 90)
 
 
 def refusal(call: Callable[[VM], object], *entries: bytes, **options: str) -> VMError:
@@ -174,6 +176,41 @@ class Fields(unittest.TestCase):
             with self.assertRaises(VMError) as raised:
                 vm.sys_run("charge")
             self.assertEqual((raised.exception.code, raised.exception.difference), (570, None))
+
+
+class Features(unittest.TestCase):
+    """What a call needs that the version hasn't."""
+
+    def said(self, vm: VM, *calls: Callable[[], object]) -> list[str]:
+        found = []
+        for call in calls:
+            try:
+                call()
+            except VMError as error:
+                found.append(error.hint or "")
+        return found
+
+    def begun(self, version: int) -> VM:
+        vm = VM(content_type(version))
+        vm.notify_input(start() + input_frame())
+        vm.sys_input()
+        return vm
+
+    def test_each_later_call_says_the_same(self) -> None:
+        vm = self.begun(6)
+        said = self.said(vm, lambda: vm.sys_send("S", "h", b"", limit_key="k"), lambda: vm.sys_call("S", "h", b"", scope="x"), vm.sys_end)
+        self.assertEqual(said, ["a limit key needs version 7, and the VM has version 6"] * 3)
+
+    def test_of_the_first_call_alone(self) -> None:
+        vm = self.begun(6)
+        vm.notify_error(418, "no tea", behaviour="pause")
+        said = self.said(vm, lambda: vm.sys_call("S", "h", b"", scope="x"))
+        self.assertEqual(said, ["another behaviour than retry needs version 7, and the VM has version 6"])
+
+    def test_of_an_error_that_was_handed_in(self) -> None:
+        vm = self.begun(6)
+        vm.notify_error(573, "UnsupportedFeatureForNegotiatedVersion")
+        self.assertEqual(self.said(vm, lambda: vm.sys_call("S", "h", b"", scope="x")), [""])
 
 
 class Words(unittest.TestCase):

@@ -170,7 +170,8 @@ class OwnErrors(unittest.TestCase):
                 vms[2].propose_run_completion(99, Retryable(code, "mine"))
             with self.assertRaises(VMError):
                 vms[3].call(f'propose 99 retryable 1 {code} "mine"')
-            texts = ["573 UNSUPPORTED_FEATURE: UnsupportedFeatureForNegotiatedVersion"] * 2 + ["500 INTERNAL: no pending run"] * 2
+            lacks = "573 UNSUPPORTED_FEATURE: UnsupportedFeatureForNegotiatedVersion"
+            texts = [f"{lacks} (another behaviour than retry needs version 7, and the VM has version 6)", lacks, *["500 INTERNAL: no pending run"] * 2]
             for vm, text in zip(vms, texts):
                 for call in (vm.sys_end, lambda: vm.call("end")):
                     with self.subTest(code=code, text=text), self.assertRaises(VMError) as found:

@@ -39,7 +39,7 @@ from collections.abc import Callable, Iterable
 from types import TracebackType
 from typing import Any, Literal, Never, Self, cast
 
-from palqytun import _abi, _answers, _differing, _library
+from palqytun import _abi, _answers, _differing, _features, _library
 from palqytun._arguments import (
     lent_command,
     lent_content_type,
@@ -231,6 +231,7 @@ class VM:
         self._handed_in: int | None = None  # the code of the error that was handed in, if the VM has failed by it
         self._is_refused = False  # an error has failed the VM
         self._difference: Difference | None = None  # in what that call wasn't as recorded
+        self._lacks: str | None = None  # what it needed that the version hasn't
         self._ignores_payloads = checks == "off"
         # What was fed, to say in what a call differs: a list until the handler begins, then a tuple. None once nothing is replayed any more.
         self._fed: list[bytes] | tuple[bytes, ...] | None = [] if replay == "on" else None
@@ -279,7 +280,7 @@ class VM:
         """Notes what a line that begins with this word has done to the VM. What a line feeds isn't kept."""
         if word == "vm":
             self._is_begun, self._handed_in = False, None
-            self._is_refused, self._difference = False, None
+            self._is_refused, self._difference, self._lacks = False, None, None
             self.version = answer[3:] if answer.startswith("ok ") else ""
         elif word == "sys_input" and answer.startswith("ok "):
             self._begins()
@@ -335,7 +336,13 @@ class VM:
 
     def _check_asked(self, replied: Replied, name: str, given: tuple[object, ...]) -> None:
         """Raises an error of a typed call with these arguments. The last one says whether it is unstable, if it is a `bool`."""
+        self._note_lacking(replied, name, given)
         self._check_made(replied, lambda vm: vm._calls[name](vm._session, *given), bool(given) and given[-1] is True)
+
+    def _note_lacking(self, replied: Replied, name: str, given: tuple[object, ...]) -> None:
+        """Notes what the call needed by which the VM has failed, if the version hasn't that."""
+        if not self._is_refused and replied.number == Code.UNSUPPORTED_FEATURE:
+            self._lacks = _features.lacking(name, given, int(self.version[1:]))
 
     def _made(self, replied: Replied) -> Replied:
         """What a call without a command has returned; an error is raised."""
@@ -344,7 +351,10 @@ class VM:
         return replied
 
     def _check_method(self, replied: Replied, method: Callable[..., object], args: tuple[VM, ...], named: dict[str, Any]) -> None:
-        """Raises what a method in C was refused by: this one in Python has the same arguments, and this VM before them."""
+        """Raises what a method in C was refused by: this one in Python has the same arguments, and this VM before them. If the version lacks something,
+        the method says what: a VM that has failed returns the same once more."""
+        if not self._is_refused and replied.number == Code.UNSUPPORTED_FEATURE:
+            method(*args, **named)
         self._check_made(replied, lambda vm: method(vm, *args[1:], **named), named.get("unstable") is True)
 
     def _check_made(
@@ -381,6 +391,9 @@ class VM:
         if not had_failed:
             after = replied if replied.status == _abi.REFUSED else self._calls["is_ready"](self._session)
             self._handed_in = error.code if self._has_failed_by(error.code, bytes(error.message), after) else None
+            if _has_failed(after):
+                self._note_lacking(after, name, (error, *given))
+                self._is_refused = True
         self._made(replied)
 
     def _has_failed_by(self, code: int, text: bytes, after: Replied) -> bool:
@@ -397,6 +410,8 @@ class VM:
 
     def _hint(self, code: int, said: str, is_first: bool) -> str | None:
         """What to call instead of a call that came before the handler's first, or of a first one that came twice; or what is allowed."""
+        if code == Code.UNSUPPORTED_FEATURE:
+            return "an awakeable needs replay, which is off" if said == Code.UNSUPPORTED_FEATURE.name else self._lacks
         if code == Code.UNSUPPORTED_MEDIA_TYPE:
             least, most = SUPPORTED_VERSIONS[0], SUPPORTED_VERSIONS[-1]
             return f"the content type must be application/vnd.restate.invocation.vN with N from {least} to {most}"
@@ -595,9 +610,9 @@ class VM:
 
         >>> vm.ephemeral_state_get("visits")
         Traceback (most recent call last):
-        palqytun.errors.VMError: 573 UNSUPPORTED_FEATURE: UnsupportedFeatureForNegotiatedVersion
+        palqytun.errors.VMError: 573 UNSUPPORTED_FEATURE: UnsupportedFeatureForNegotiatedVersion (an ephemeral read needs version 8, and the VM has version 7)
         """
-        return self._made(self._calls["ephemeral_state_get"](self._session, utf8("key", key))).first
+        return self._ask("ephemeral_state_get", utf8("key", key)).first
 
     def take_ephemeral_notification(self, id: int) -> bytes | Void | None:
         """Takes the value of an ephemeral read: `bytes`, or `VOID` if the key has none; `None` if it isn't there."""

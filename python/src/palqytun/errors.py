@@ -62,8 +62,8 @@ class VMError(Exception):
     `related`, or `None`. The VM has failed, and returns the same from each later call. By lines of text only code and text are known.
 
     `difference` says in what the call isn't as the journal has it, if the error is about that; its text stands in the message. `hint` says what to do
-    in its place, if the call came out of order, or what is allowed. Each is `None` if there is none. `is_own` is whether the error is the
-    VM's own, and none that was handed in. Only then its code is a `Code`, whose name stands in the message.
+    in its place, if the call came out of order, what is allowed, or which version has what the call needs. Each is `None` if there is none. `is_own` is
+    whether the error is the VM's own, and none that was handed in. Only then its code is a `Code`, whose name stands in the message.
 
     >>> from palqytun import CommandType
     >>> error = VMError(500, "no seat", related=Related(3, CommandType.RUN, "seat"))
