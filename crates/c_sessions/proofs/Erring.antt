@@ -117,7 +117,7 @@ status_if : (b : Bool) (told : Replied) → (if b then record told { kind = unfa
 status_if true told = refl
 status_if false told = refl
 
-one_five : 1 ≡ 5 → ⊥
+one_five : ◌≡◌ {A = ℕ} 1 5 → ⊥
 one_five e = omega (arith, e)
 
 -- what has the status of a refusal was one before
