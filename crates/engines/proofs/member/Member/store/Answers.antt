@@ -20,6 +20,6 @@ returns-in-Err-stored_at-clause-replaying g c = λ r. subst IsMemoryOrFull (sym 
     (g.H.Handler.meaning c.in-Ok.course.handler) c.in-Err-stored_at.fault c.journal.ensures.history c.in-Ok.ensures.runs c.in-Err-stored_at.ensures.faulty c.in-Err-stored_at.ensures.fault
     (subst (λ (v : MemberView _). ReplaysAndQueues v.course.setting.options) (sym c.self.view_is) r))
 
-pub returns-in-Ok-stored_at-clause-ok : goal.returns-in-Ok-stored_at-clause-ok
-returns-in-Ok-stored_at-clause-ok g c = store_seen (λ h. g.H.Handler.meaning h) c.args.self c.self.inside.course c.self.inside.inbox.waiting.items c.self.inside.inbox.next _ c.in-Ok-stored_at.effect c.self.view_is c.self.invariant c.in-Ok.ensures.stored c.in-Ok.ensures.ok
+pub returns-clause-ok : goal.returns-clause-ok
+returns-clause-ok g c = store_seen (λ h. g.H.Handler.meaning h) c.args.self c.self.inside.course c.self.inside.inbox.waiting.items c.self.inside.inbox.next _ c.in-Ok-stored_at.effect c.self.view_is c.self.invariant c.in-Ok.ensures.stored c.in-Ok.ensures.ok
     (length c.journal-before.result.now) (ap length c.journal-before.ensures.value) c.journal.result.now c.journal.ensures.value c.in-Ok.ensures.runs c.in-Ok-stored_at.ensures.none c.in-Ok-stored_at.ensures.no_effect c.in-Ok-stored_at.ensures.entered c.in-Ok-stored_at.ensures.apart c.in-Ok-stored_at.ensures.effect
