@@ -65,7 +65,7 @@ abbrev pub CalledFromC : (Result Reply Status → View → View → Type 0) → 
     → Option Session → Type 0
 CalledFromC does told (Some old) (Some new) =
     OnVm does told old.vm new.vm old.mimics new.mimics old.reply new.reply
-        × (new.answer ≡ old.answer)
+    × (new.answer ≡ old.answer)
     × (new.lent ≡ old.lent) × (new.peer ≡ old.peer)
 CalledFromC does told None None = told ≡ kept_told status.NoSession
 CalledFromC does told old new = ⊥
@@ -92,7 +92,7 @@ abbrev pub MadeFromC : Global → VMOptions → Result Version Error → Replied
 MadeFromC alloc options wanted told (Some old) (Some new) =
     VmIsMade alloc options wanted new.reply new.vm
     × (told ≡ numbers_by true false (summary new.reply)) × (new.mimics ≡ false)
-        × (new.answer ≡ old.answer) × (new.lent ≡ old.lent) × PeerCleared old.peer new.peer
+    × (new.answer ≡ old.answer) × (new.lent ≡ old.lent) × PeerCleared old.peer new.peer
 MadeFromC alloc options wanted told None None = told ≡ kept_told status.NoSession
 MadeFromC alloc options wanted told old new = ⊥
 
