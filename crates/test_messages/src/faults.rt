@@ -1,11 +1,11 @@
 // The names that others read: versions, types of messages, faults and errors; and small values, copied and read.
 use crate::frame_rows::expect;
 use bytes::Bytes;
-use wire::whole;
 use journal_protocol::{Error, MessageType, NamedFault, Said, Version};
 use plain::{Fault, Items, Text, copy_of, is_same};
 use std::str::FromStr;
 use std::test::Fail;
+use wire::whole;
 
 static VERSIONS: [(&str, Version); 8] = [
     ("application/vnd.restate.invocation.v1", Version::V1),

@@ -4,7 +4,6 @@ use crate::faults::says;
 use crate::frame_rows::expect;
 use crate::reading::{encoded, first_frame, sent_in};
 use bytes::Bytes;
-use wire::whole;
 use journal_protocol::{
     Decoder, Error, Future, FutureKind, FutureNode, Message, RawMessage, ValueOrFailure, header_eq,
     messages_of,
@@ -12,6 +11,7 @@ use journal_protocol::{
 use plain::{Fault, Items, Text, is_same};
 use std::alloc::{AllocError, Global};
 use std::test::Fail;
+use wire::whole;
 
 // A message is owned by a list: if a function lends one of its own, its proof takes all kinds of messages apart.
 

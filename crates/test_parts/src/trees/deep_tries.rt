@@ -4,13 +4,13 @@ use crate::trees::rows::{arrive, map, mapped};
 use await_trees::UnresolvedFuture;
 use await_tries::{Residue, Resolution, future_of, list_handles, try_future};
 use bytes::Bytes;
-use wire::Wire;
 use journal_protocol::{Future, FutureKind, SignalDelivery};
 use plain::Fault;
 use std::alloc::{AllocError, Global};
 use std::process::Abort;
 use std::test::Fail;
 use vm_parts::AsyncResults;
+use wire::Wire;
 
 /// What a try leaves: its only handle, if it has one, and what is sent: how many nodes, in how many bytes, and how
 /// many nodes are read from them.
