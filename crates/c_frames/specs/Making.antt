@@ -28,6 +28,6 @@ abbrev pub input_behind : Option RawMessage → List ℕ → Result (List ℕ) S
 input_behind None value = Err status.NotAFrame
 input_behind (Some raw) value = input_made (input_read_from raw) value
 
--- the frame of an input with this value in the place of its own, or why there is none
+-- the frame of an input with this value instead of its own, or why there is none
 abbrev pub input_with : List ℕ → List ℕ → Result (List ℕ) Status
 input_with frame value = input_behind (frame_in frame) value

@@ -49,7 +49,7 @@ fn with_value(alloc: Global, input: InputCommand, value: &[u8]) -> Result<Bytes,
     Encoder::new(alloc).encode(&message)
 }
 
-/// The frame of an input, with this value in the place of its own.
+/// The frame of an input, with this value instead of its own.
 pub fn input_with(
     alloc: Global,
     frame: &[u8],

@@ -29,7 +29,7 @@ reply_kept (Ok reply) last = reply
 reply_kept (Err status) last = last
 
 -- `does` says what the call does to the VM. The call is made: C gets its reply's summary, and the
--- reply is kept in the place of the last. Or it isn't made: C gets the reason.
+-- reply is kept instead of the last one. Or it isn't made: C gets the reason.
 abbrev pub IsMadeOf : (Result Reply Status → View → View → Type 0) → Result Replied Status → View
     → View → Reply → Reply → Type 0
 IsMadeOf does (Ok told) old new last kept = does (Ok kept) old new × (told ≡ summary kept)
@@ -84,7 +84,7 @@ OwnFromC does told (Some old) (Some new) = OwnOver old.peer does told old new
 OwnFromC does told None None = told ≡ kept_told status.NoSession
 OwnFromC does told old new = ⊥
 
--- A VM is put into the session that there is, in the place of the last. If there is none, C gets
+-- A VM is put into the session that there is, instead of the last one. If there is none, C gets
 -- the reason; out of memory has a status of its own. The last answer to a line stays, and so does
 -- the output that C was lent. Nothing waits beside the new VM.
 abbrev pub MadeFromC : Global → VMOptions → Result Version Error → Replied → Option Session

@@ -154,7 +154,7 @@ impl Session {
         }
     }
 
-    /// Puts a new VM in the place of the last, and drops what waits beside that. Returns its version, or why there is none.
+    /// Replaces the last VM by a new one, and drops what waits beside that. Returns its version, or why there is none.
     pub fn make(&mut self, alloc: Global, content_type: ContentType, options: VMOptions) -> Replied
         ensures answer { self.new.answer ≡ self.old.answer }
         ensures lent { self.new.lent ≡ self.old.lent }

@@ -26,7 +26,7 @@ pub trait VmCall: Drop {
     /// What the call does to a VM: its reply, or why it isn't made; and the VM before and after.
     ghost does: { Self → Result Reply Status → View → View → Type 0 };
 
-    /// Makes the call, keeps its reply in the place of the last, and returns the reply's summary. An `Err` if what C gave can't be used.
+    /// Makes the call, keeps its reply instead of the last one, and returns the reply's summary. An `Err` if what C gave can't be used.
     fn make(self, alloc: Global, vm: &mut CoreVM, kept: &mut Reply) -> Result<Replied, Status>
         ensures { IsMadeOf (does self) result (seen vm.old) (seen vm.new) kept.old kept.new };
 }
@@ -59,7 +59,7 @@ pub fn call_own<C: VmCall>(alloc: Global, vm: &mut Vm, call: C) -> Replied
     }
 }
 
-/// Puts a new VM into the session in the place of the last. Returns its version, or why there is none.
+/// Replaces the session's VM by a new one. Returns its version, or why there is none.
 pub fn make(alloc: Global, vm: &mut Vm, content_type: ContentType, options: VMOptions) -> Replied
     ensures { MadeFromC alloc options
         (version_in (header_under content_type (codes "content-type")))

@@ -10,7 +10,7 @@ pub enum Request {
     Bad,
     /// A `vm` line without a meaning, which drops the VM.
     BadMake,
-    /// A new VM in the place of the last.
+    /// A new VM, which replaces the last one.
     Make(ContentType, VMOptions),
     Call(Call),
 }

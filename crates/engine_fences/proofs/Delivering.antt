@@ -42,7 +42,7 @@ use Rattle.engine_fences.proofs.Inboxes.{inboxes_caused}
 abbrev plain : {H : Type 0} → Invocation H → Invocation H
 plain it = record it { member = None }
 
--- The clock is the same, and so is each invocation but for its rounds.
+-- The clock is the same, and so is each invocation except for its rounds.
 record Alike {H : Type 0} (old new : Engine H) : Type 0 where
   clock : new.clock ≡ old.clock
   each : (i : ℕ) → option_map plain (slice_get new.invocations.items i) ≡ option_map plain (slice_get old.invocations.items i)

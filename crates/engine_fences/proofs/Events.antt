@@ -66,7 +66,7 @@ pub record WasMade {H : Type 0} (P : Invocation H → Invocation H → Type 0) (
   pub began : (m : MemberView H) → made.member ≡ Some m → IsNew m
   pub since : P made it
 
--- Each invocation that was there is there, and it is so of it. Any other was made since.
+-- Each invocation that was there still is, and P holds of it before and after. Any other was made since.
 pub record AllHold {H : Type 0} (P : Invocation H → Invocation H → Type 0) (old new : Engine H) : Type 0 where
   pub targets : new.targets ≡ old.targets
   pub each : (i : ℕ) (it : Invocation H) → slice_get old.invocations.items i ≡ Some it → (it' : Invocation H) × (slice_get new.invocations.items i ≡ Some it') × P it it'

@@ -134,8 +134,8 @@ SaysTrimmed false text it = (says_nothing text ≡ false) × SaysRow text it
 abbrev pub is_step_line : List ℕ → Bool
 is_step_line text = starts_with nat_eq text (codes "  ")
 
--- what a line says, which is UTF-8; but for the two blanks of a step, blanks at its ends don't
--- count
+-- what a line says, which is UTF-8; blanks at its ends don't count, except the two before
+-- a step
 abbrev pub SaysEngineLine : List ℕ → Said → Type 0
 SaysEngineLine text it = (trimmed : List ℕ) × IsTrimAscii text trimmed × IsUtf8 trimmed
     × SaysTrimmed (is_step_line text) trimmed it

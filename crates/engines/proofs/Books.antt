@@ -1,4 +1,4 @@
--- What waits for an invocation is all that its stored commands ever waited for, but for what has come.
+-- What waits for an invocation is all that its stored commands ever waited for, except what has come.
 use Rattle.std.proofs.Common.{◌≡◌, ◌⊎◌, inl, inr, ℕ, ◌<◌, slice_index_or, Bool, true, false, List, [], ◌∷◌, ◌++◌, length, Option, Some, None, refl, sym, ap, ◌∙◌, subst, append-nil, arith}
 use Rattle.std.specs.Prelude.{◌==◌, ◌||◌, if◌then◌else◌, flat_map, nat_le}
 use Rattle.std.proofs.lemmas.Bool.Decides.{nat_tests}

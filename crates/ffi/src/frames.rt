@@ -52,7 +52,7 @@ pub extern "C" fn proved_value_frame(alloc: Global, value: &[u8], out: &mut [u8]
     }
 }
 
-/// Writes the frame of an input, with this value in the place of its own, to the front of `out`, if there is room for it, and says how
+/// Writes the frame of an input, with this value instead of its own, to the front of `out`, if there is room for it, and says how
 /// long it is.
 #[unsafe(no_mangle)]
 pub extern "C" fn proved_input_frame(

@@ -51,7 +51,7 @@ pub extern "C" fn proved_next_retry(alloc: Global, vm: &mut Vm) -> Retry
     read_retry(alloc, vm)
 }
 
-/// Makes a VM in the place of the last.
+/// Makes a VM, which replaces the last one.
 #[unsafe(no_mangle)]
 pub extern "C" fn proved_make(
     alloc: Global,

@@ -89,7 +89,7 @@ pub trait VM: Sized {
     fn do_await(&mut self, future: UnresolvedFuture) -> VMResult<AwaitResponse>
         ensures { CallsFlatAwait future result (view self.old) (view self.new) };
 
-    /// Takes the result that a handle has; the handle then stands for nothing more, but for the cancel handle.
+    /// Takes the result that a handle has; the handle then stands for nothing more, except the cancel handle.
     fn take_notification(&mut self, handle: NotificationHandle) -> VMResult<Option<Value>>
         ensures { Calls (take_step handle.0) result (view self.old) (view self.new) };
 

@@ -246,7 +246,7 @@ pub fn seed_in(words: &[&[u8]]) -> Result<u64, Fault>
     }
 }
 
-/// The options that the words name, but for the seed; those that aren't named are at their default.
+/// The options that the words name, except the seed; those that aren't named are at their default.
 pub fn policies_of(words: &[&[u8]]) -> Result<VMOptions, Fault>
     ensures policies { IfOk result (λ options. ArePolicies words.now options) }
     ensures seed { IfOk result (λ options. options.fallback_random_seed

@@ -375,7 +375,7 @@ abbrev pub any_refusal : Command → List Command → Option NamedFault
 any_refusal c [] = c.refusal
 any_refusal c (b ∷ bs) = option_or c.refusal (any_refusal b bs)
 
--- it is so of a command and of each of those after it
+-- this holds of a command and of each of those after it
 abbrev pub EachIs : (Command → Type 0) → Command → List Command → Type 0
 EachIs P c [] = P c
 EachIs P c (b ∷ bs) = P c × EachIs P b bs

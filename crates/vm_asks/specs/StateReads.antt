@@ -98,7 +98,7 @@ own_result (Err name) = None
 
 -- ---- a recorded read
 
--- a recorded command that has to be header-equal to this form, but for its result: what it brings,
+-- a recorded command that has to be header-equal to this form except in its result: what it brings,
 -- or why it doesn't fit
 abbrev pub read_by : Message → Option Message → Result (Option NotificationResult) NamedFault
 read_by form None = Err fault.BadMessage
@@ -118,8 +118,8 @@ abbrev pub read_in_form : Option Message → Option Message
 read_in_form None recorded = Err fault.CommandTypeMismatch
 read_in_form (Some form) recorded = read_by form recorded
 
--- A recorded command in the place of a read with this completion id: what it brings, or why it
--- doesn't fit. Its form decides.
+-- A recorded command where the handler makes a read with this completion id: what the command
+-- brings, or why it doesn't fit. Its form decides.
 abbrev pub recorded_as : StateRead → ℕ → RawMessage → Result (Option NotificationResult) NamedFault
 recorded_as r id raw = read_in_form (form_of r id raw) (message_in raw.ty raw.body)
 

@@ -87,7 +87,7 @@ pub fn result_in(
     }
 }
 
-/// What a recorded command brings that has to be header-equal to this form, but for its result; or why it doesn't fit.
+/// What a recorded command brings that has to be header-equal to this form except in its result; or why it doesn't fit.
 fn compared(
     form: &Message,
     recorded: &Message,
@@ -200,7 +200,7 @@ impl StateRead {
         }
     }
 
-    /// What a recorded command brings in the place of the read, or why it doesn't fit.
+    /// What a recorded command brings where the handler makes this read, or why it doesn't fit.
     pub fn recorded_as(
         &self,
         alloc: Global,

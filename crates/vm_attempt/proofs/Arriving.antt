@@ -132,7 +132,7 @@ module _ (s : Setup) (given : StateMap) (written : List RawMessage) (aside : Asi
   unknown_comes true raw = completed_comes (ephemeral_notification_in raw.body)
   unknown_comes false raw = inr refl
 
-  -- another message than a notification is refused, but for an acknowledgement and the result of an ephemeral read in Processing
+  -- another message than a notification is refused, except an acknowledgement and the result of an ephemeral read in Processing
   other_comes : (raw : RawMessage) (phase : Phase) → is_running phase ≡ true → (a b d : Bool)
       → Comes s given written (left_by (settled (if a then start_step raw phase here else if b then entry_step raw phase here else if d then acknowledgement_step raw phase here else unknown_step (is_ephemeral raw) raw phase here)))
       (notified_by (if d then acknowledged_as aside.proposals (acknowledgement_in raw.body) else None) []) (if d then unacknowledged aside.proposals (acknowledgement_in raw.body) else aside.proposals) p

@@ -1,4 +1,4 @@
--- What the calls of an attempt keep, but for its steps: feeding, closing the input, taking the output.
+-- What the calls of an attempt other than its steps keep: feeding, closing the input, taking the output.
 use Rattle.std.proofs.Common.{◌≡◌, ◌≢◌, ◌⊎◌, ℕ, Bool, true, false, List, [], ◌∷◌, ◌++◌, Option, Some, None, Result, Ok, Err, refl, sym, ap, ◌∙◌, subst, inl, inr, ⊎_elim, append-nil}
 use Rattle.std.specs.Prelude.{if◌then◌else◌, is_some, IsSome}
 use Rattle.std.specs.List.{concat}

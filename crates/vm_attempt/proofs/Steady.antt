@@ -1,4 +1,4 @@
--- What the calls of an attempt write, but for the results of runs, proposes nothing; and so what they do to its record is what they do to
+-- What the calls of an attempt write, except the results of runs, proposes nothing; so what they do to its record is what they do to
 -- its fields.
 use Rattle.std.proofs.Common.{◌≡◌, ◌≢◌, ◌⊎◌, ℕ, true, false, Bool, List, [], ◌∷◌, ◌++◌, map, Option, Some, None, Result, Ok, Err, refl, sym, ap, ◌∙◌, subst, inl, inr, ⊎_elim, append-nil, Global}
 use Rattle.std.specs.List.{concat}

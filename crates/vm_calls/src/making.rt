@@ -1,4 +1,4 @@
-//! A VM that is made in the place of the last.
+//! A new VM, which replaces the last one.
 ghost use Rattle.std.specs.Prelude.{◌≡◌, codes};
 ghost use Rattle.invocation_vm.specs.Making.{version_in};
 ghost use Rattle.vm_types.specs.ContentTypes.{header_under};
@@ -8,7 +8,7 @@ use invocation_vm::{CoreVM, VM};
 use std::alloc::Global;
 use vm_types::{ContentType, Reply, VMOptions};
 
-/// Puts a VM, or none, in the place of the last, which is dropped.
+/// Replaces the last VM by another one, or by none. The last one is dropped.
 fn replace(vm: &mut Option<CoreVM>, new: Option<CoreVM>)
     ensures { vm.new ≡ new }
 {
@@ -31,7 +31,7 @@ fn make(alloc: Global, content_type: ContentType, options: VMOptions) -> (Reply,
     }
 }
 
-/// Puts a new VM in the place of the last, which is dropped first.
+/// Replaces the last VM by a new one. The last one is dropped first.
 pub fn make_anew(
     alloc: Global,
     vm: &mut Option<CoreVM>,

@@ -49,7 +49,7 @@ fn write_read(
     machine.write(form)
 }
 
-/// Pops the next recorded command in the place of a read.
+/// Pops the next recorded command, for a read.
 fn replay_read(
     machine: &mut Machine,
     read: &StateRead,

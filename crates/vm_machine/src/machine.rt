@@ -1,4 +1,4 @@
-//! The record of a machine. It is what contracts see of a VM, but for the bytes that aren't decoded yet.
+//! The record of a machine. It is what contracts see of a VM, except the bytes that aren't decoded yet.
 ghost use Rattle.std.specs.Prelude.{◌≡◌, [], IfOk};
 ghost use Rattle.vm_machine.specs.Making.{fresh, nothing_started};
 

@@ -25,7 +25,7 @@ use Rattle.vm_model.specs.Calls.Demand.{Reads}
 use Rattle.vm_model.specs.Calls.Move.{Answers, Needs, Awaits, Ends, Refuses}
 use Rattle.vm_model.proofs.Parts.{turn_is}
 
--- it is so of what a move needs, and of the answers that it gives
+-- this holds of what a move needs, and of the answers that it gives
 abbrev pub OfMove : (Demand → List Answer → Type 0) → Move → Type 0
 OfMove P (Needs e gives d) = P e gives
 OfMove P (Answers gives d) = Unit {0}
@@ -33,11 +33,11 @@ OfMove P Awaits = Unit {0}
 OfMove P Ends = Unit {0}
 OfMove P (Refuses name) = Unit {0}
 
--- it is so of a command, for all answers that its move may give
+-- this holds of a command, for all answers that its move may give
 abbrev OfCommand : Setup → (Demand → List Answer → Type 0) → Command → Type 0
 OfCommand s P c = (d : Derived) (gives : List Answer) → P (demand_of s c d) gives
 
--- it is so of what a step asks for: a lone command is answered by one answer
+-- this holds of what a step asks for: a lone command is answered by one answer
 abbrev pub OfAsk : Setup → (Demand → List Answer → Type 0) → Ask → Type 0
 OfAsk s P (ask.Command c) = (d : Derived) (a : Answer) → P (demand_of s c d) (a ∷ [])
 OfAsk s P (ask.Commands kind first second) = EachIs (OfCommand s P) first (second ∷ [])

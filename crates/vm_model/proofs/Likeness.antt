@@ -146,14 +146,14 @@ same_on a b said also leave same g = left_on a said g ∙ ap (leaves_of a) (same
 
 -- ---- runs
 
--- it is so of the calls at each point that the run of the first leads to from here
+-- this holds of the calls at each point that the run of the first leads to from here
 abbrev CallsFrom : (Move → Move → Type 0) → Setup → Meaning → Meaning → Point → Type 0
 CallsFrom Are s m other p = (k : ℕ) (r : Point) → after s m k p ≡ Some r → Are (move_at s m r) (move_at s other r)
 
 calls_on : (Are : Move → Move → Type 0) (s : Setup) (m other : Meaning) (p r : Point) → next s m p ≡ Some r → CallsFrom Are s m other p → CallsFrom Are s m other r
 calls_on Are s m other p r is calls k x run = calls (suc k) x (ap (λ o. and_then o (after s m k)) is ∙ run)
 
--- the other's run reaches the same point, but for what was said
+-- the other's run reaches the same point, except for what was said
 after_alike : (s : Setup) (m other : Meaning) (n : ℕ) (p q : Point) (said : List Message) → CallsFrom Alike s m other p → after s m n p ≡ Some q
     → (more : List Message) × (after s other n (saying said p) ≡ Some (saying more q)) × (CallsFrom LeaveAlike s m other p → Same p.said said → Same q.said more)
 after_alike s m other zero p q said alike h = (said, ap (said_in said) h, λ leave same g. ap (λ (z : Point). changed_by z.said g) (sym (held h)) ∙ same g)

@@ -86,7 +86,7 @@ weaker : (s : Setup) (m : Meaning) (base : StateMap) (R : StateMap → StateMap 
 weaker s m base R lift zero p made q h = h
 weaker s m base R lift (suc n) p made q (one, state, r, rest, are, knows, is, moves, further) = (one, state, r, rest, are, lift (changed_by p.said base) state knows, is, moves, weaker s m base R lift n r rest q further)
 
--- each handler that is alike reaches the same point on what was made, but for what its calls said
+-- each handler that is alike reaches the same point on what was made, except for what its calls said
 told_mixed : (s : Setup) (m o : Meaning) (K : Knowledge) (n : ℕ) (p : Point) (made : List RawMessage) (q : Point) (said : List Message) → AlikeHandlers s m o → Same p.said said → MadeAlike s m K n p made q
     → (x : List Message) × (after s o n (longer made (saying said p)) ≡ Some (saying x q)) × Same q.said x
 told_mixed s m o K zero p made q said also same h = (said, (λ i. Some (longer (h.0 i) (saying said (h.1 i)))) ∙ ap Some (longer_nothing (saying said q)), λ g. ap (λ (z : Point). changed_by z.said g) (sym h.1) ∙ same g)

@@ -223,7 +223,7 @@ each_first : (P : Command → Type 0) (c : Command) (cs : List Command) → Each
 each_first P c [] h = h
 each_first P c (b ∷ bs) h = h.0
 
--- so it is of the one that comes next
+-- it also holds of the one that comes next
 pub turn_is : (P : Command → Type 0) (s : Setup) (n : ℕ) (c : Command) (cs : List Command) (d : Derived) → EachIs P c cs → P (turn_after s n c cs d).command
 turn_is P s zero c cs d h = each_first P c cs h
 turn_is P s (suc n) c [] d h = h

@@ -136,7 +136,7 @@ given_count completion signal ask.End = refl
 
 -- ---- one call
 
--- A call gives the next handles to its ids; or it is a take that was answered with a value, whose handle is forgotten, but for the
+-- A call gives the next handles to its ids; or it is a take that was answered with a value, whose handle is forgotten, except the
 -- cancel handle.
 abbrev Change : Ask → List NotificationId → List Answer → Derived → List Mapping → Type 0
 Change a ids gives d held =

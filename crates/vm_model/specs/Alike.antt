@@ -44,7 +44,7 @@ LeaveAlike a b = (state : StateMap) → leaves_of a state ≡ leaves_of b state
 
 -- ---- on what a journal tells
 
--- it is so of the calls after all answers that the journal tells the first handler
+-- this holds of the calls after all answers that the journal tells the first handler
 abbrev pub CallsOn : (Move → Move → Type 0) → Setup → Meaning → Meaning → List Entry → Type 0
 CallsOn Are s m other journal =
     (first : RawMessage) (input : InputCommand) (rest : List RawMessage) (p : Point)

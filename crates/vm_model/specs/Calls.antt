@@ -317,7 +317,7 @@ awaited s false future d = awaiting (is_awake s future d) d
 
 -- ---- takes
 
--- a taken result leaves, and its handle with it, but for the cancel handle, by what is then known
+-- a taken result leaves, and its handle with it, except the cancel handle, by what is then known
 -- of the tracked calls
 abbrev pub take_noting_id : NotificationHandle → NotificationId → Value → Option (List TrackedCall)
     → Derived → Move

@@ -124,7 +124,7 @@ after_head (x ∷ xs) = xs
 abbrev pub IsPrefix : {A : Type 0} → List A → List A → Type 0
 IsPrefix {A} xs ys = (rest : List A) × (ys ≡ xs ++ rest)
 
--- of two lists one begins the other
+-- of two lists one is a prefix of the other
 abbrev pub OneBegins : {A : Type 0} → List A → List A → Type 0
 OneBegins xs ys = IsPrefix xs ys ⊎ IsPrefix ys xs
 

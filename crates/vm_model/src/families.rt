@@ -42,7 +42,7 @@ pub fn erased_alike()
         → SoundHistory s other base journal }
     ensures finished { (s : Setup) (m other : Meaning) (journal : List Entry)
         → AlikeOn s m other journal → HasFinished s m journal → HasFinished s other journal }
-    // Of the answers at a point that an earlier journal tells the one, and those of an attempt of the other, one begins the other.
+    // The answers at a point that an earlier journal tells the one, and those of an attempt of the other: one list is a prefix of the other.
     ensures agree { (s : Setup) (m other : Meaning) (journal more : List Entry) (a : Attempted)
         (t : IsToldOn s other (journal ++ more) a) (rest : List RawMessage)
         → AlikeOn s m other journal → commands_in journal ≡ t.first ∷ rest → (p : Point)

@@ -10,7 +10,7 @@ ghost use Rattle.vm_model.specs.Moves.{Point, after, start};
 ghost use Rattle.vm_model.specs.NamedHandles.{Gets, Names};
 ghost use Rattle.vm_model.specs.TakenHandles.{IsGone, TookValue};
 
-/// A take that was answered with a value removes its handle, but for the cancel handle. If it was that of a call whose invocation's
+/// A take that was answered with a value removes its handle, except the cancel handle. If it was that of a call whose invocation's
 /// id wasn't known, the id is known from then on; of all other calls it is known or not as before.
 pub fn taken_handles_go()
     ensures { (s : Setup) (m : Meaning) (n : ℕ) (input : InputCommand) (ns : List Notification)

@@ -85,7 +85,7 @@ pub fn commands_stand_behind()
         → (command ≡ written) × IsPrefix (notifications_in earlier) (notifications_in ahead) }
 {}
 
-/// Of the answers at a point that is reached on an earlier journal, and those of a later attempt, one begins the other.
+/// The answers at a point that is reached on an earlier journal, and those of a later attempt: one list is a prefix of the other.
 pub fn attempts_agree()
     ensures { (s : Setup) (m : Meaning) (journal more : List Entry) (a : Attempted)
         (t : IsToldOn s m (journal ++ more) a) (rest : List RawMessage) → commands_in journal

@@ -20,7 +20,7 @@ pub fn replays_prove_histories()
 {}
 
 /// If two versions of a handler make the same calls after all answers that a journal tells, the journal is a history, a sound
-/// history or one run of the one if it is so of the other.
+/// history or one run of the one if it is that of the other.
 pub fn versions_share_journals()
     ensures back { (s : Setup) (m other : Meaning) (journal : List Entry)
         → AgreeOn s m other journal → AgreeOn s other m journal }

@@ -63,7 +63,7 @@ behind_last handle ts n last e a is less =
 with_call-before : (handle : ℕ) (t : TrackedCall) (ts : List TrackedCall) → handle < t.handle → with_call handle (t ∷ ts) ≡ unresolved_call handle ∷ t ∷ ts
 with_call-before handle t ts less = grind (arith, nat_tests)
 
--- in the place of the same handle
+-- replacing the call of the same handle
 with_call-same : (handle : ℕ) (t : TrackedCall) (ts : List TrackedCall) → t.handle ≡ handle → with_call handle (t ∷ ts) ≡ unresolved_call handle ∷ ts
 with_call-same handle t ts e = grind (arith, nat_tests)
 
@@ -84,7 +84,7 @@ between_tail : (handle : ℕ) (t : TrackedCall) (ts : List TrackedCall) (i : ℕ
 between_tail handle t ts i p =
     (let l = p.0 in omega arith, (λ k d z l. p.1.0 (suc k) d (omega arith) (omega arith), λ k d l below. p.1.1 (suc k) d (omega arith) (omega arith)))
 
--- a call in the place of its handle's
+-- a call replacing that of its handle
 pub with_call-at : (handle : ℕ) (ts : List TrackedCall) (i : ℕ) → TrackedAscend ts → IsTrackedAt handle ts i → with_call handle ts ≡ set ts i (unresolved_call handle)
 with_call-at handle [] i a at = let l = at.0 in absurd (omega arith)
 with_call-at handle (t ∷ ts) zero a at = with_call-same handle t ts (at.1 t)

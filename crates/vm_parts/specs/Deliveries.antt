@@ -97,7 +97,7 @@ next_used v =
     let came = one_used (record { queued = v.queued; delivered = v.ready.delivered }) in
     record v { queued = came.queued; ready = record v.ready { delivered = came.delivered } }
 
--- a take: the present result leaves, and the handle with it, but for the cancel handle
+-- a take: the present result leaves, and the handle with it, except the cancel handle
 abbrev pub after_take : SignalDelivery → ℕ → NotificationId → Arrived → Arrived
 after_take delivery handle id v =
     record v {

@@ -45,7 +45,7 @@ with_in_flight id e = record e { in_flight = insert_key nat_cmp e.in_flight id }
 abbrev pub with_ready : ℕ → Option (List ℕ) → Ephemerals → Ephemerals
 with_ready id value e = record e { ready = insert_entry nat_cmp e.ready id value }
 
--- The result of a read comes: it is ready with this value, in the place of one that it had. Where
+-- The result of a read comes: it is ready with this value, which replaces the one that it had. If
 -- no such read is held, nothing is done.
 abbrev pub with_read_completed : ℕ → Option (List ℕ) → Ephemerals → Ephemerals
 with_read_completed id value e =

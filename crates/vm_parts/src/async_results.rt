@@ -238,7 +238,7 @@ impl AsyncResults {
         self.arrivals.use_one()
     }
 
-    /// Takes the present result of a handle; the handle is then forgotten, but for the cancel handle.
+    /// Takes the present result of a handle; the handle is then forgotten, except the cancel handle.
     pub fn take(&mut self, delivery: SignalDelivery, handle: u32) -> Option<NotificationResult>
         ensures { IsTakeOf delivery handle self.old result self.new }
     {

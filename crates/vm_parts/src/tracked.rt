@@ -74,7 +74,7 @@ impl TrackedCalls {
         self.calls.len()
     }
 
-    /// Tracks a call, in the place of the one that had its handle.
+    /// Tracks a call. It replaces the one that had its handle.
     pub fn push(&mut self, handle: u32) -> Result<(), AllocError>
         ensures ok { OnOk result (self.new ≡ with_call handle self.old) }
         ensures err { OnErr result (self.new ≡ self.old) }

@@ -197,7 +197,7 @@ pub record Lasts (K : Knowledge) (P : List Entry → Type 0) (m : Meaning) (w : 
 pub round_handed : (K : Knowledge) (m : Meaning) (w : Setting) (q : Round) (qs : List Round) (old : List (List ℕ)) (report : ReportView) (mid : List (List ℕ)) → HandsOut K w (q ∷ qs) → History (setup_of w) m (base_of w) (journal_entries old) → (d : RoundDoes m w q old report mid) → IsHanded K (journal_entries old) (attempt_of m w q old report mid d)
 round_handed K m w q qs old report mid hands past d = subst (λ x. K x (messages_in (after_head (commands_in (journal_entries old))))) (sym (round_gives m w q old report mid d).0) (hands.0 old (history_begins (setup_of w) m (base_of w) (journal_entries old) past))
 
--- it is so of the journal after a round too
+-- it also holds of the journal after a round
 pub round_lasts : (K : Knowledge) (P : List Entry → Type 0) (m : Meaning) (w : Setting) (q : Round) (qs : List Round) (old : List (List ℕ)) (report : ReportView) (mid : List (List ℕ)) → ReplaysAndQueues w.options → Lasts K P m w → HandsOut K w (q ∷ qs) → IsJournal old → P (journal_entries old) → RoundDoes m w q old report mid → P (journal_entries mid)
 round_lasts K P m w q qs old report mid r l hands j h d =
     let past = l.history (journal_entries old) h in

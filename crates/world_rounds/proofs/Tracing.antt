@@ -251,7 +251,7 @@ round_invents_nothing m w round old report new (inr d) =
       notes = all_map (λ (n : Notification). (x : List ℕ) × IsAmong (event.Arrive x) round.events × (note_in x ≡ Some n)) (RoundNotes round report) (λ n h. inl (h.0, (round, ([], [], refl), h.1), h.2)) (notes_in c.added) c.notes;
     }
 
--- of some rounds it is so of more
+-- what holds of some rounds holds of more
 abbrev EntryOf : List Round → List ReportView → List ℕ → Type 0
 EntryOf rounds reports x = HasArrived x rounds ⊎ WasWritten x reports
 

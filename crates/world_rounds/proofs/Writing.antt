@@ -75,7 +75,7 @@ asked_writes (ask.Take handle) v o does = subst (EventWrites v) (sym does) (mapp
 asked_writes (ask.Completed handle) v o does = subst (EventWrites v) (sym does) (writes_nothing v v (same v))
 asked_writes ask.End v o does = subst (EventWrites v) (sym does) (mapped_writes _ v _ (end_writes v))
 
--- one output begins the other
+-- one output is a prefix of the other
 abbrev Extends : Machine → Machine → Type 0
 Extends old new = IsPrefix old.output new.output
 

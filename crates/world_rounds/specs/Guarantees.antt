@@ -93,8 +93,8 @@ HasRightKinds journal = AreOfTheirKind (notes_in journal) (commands_among (journ
 abbrev pub told : List Report → List ReportView
 told reports = map report_view reports
 
--- Of the answers that an earlier report's journal tells, and those of a later report, one list
--- begins the other.
+-- The answers that an earlier report's journal tells, and those of a later report: one list is a
+-- prefix of the other.
 abbrev pub AttemptsAgree : Case → List (List ℕ) → List ReportView → Type 0
 AttemptsAgree c journal reports = Agree (setup_of c.setting) c.handler journal reports
 

@@ -354,8 +354,8 @@ pub record ReplaysAndQueues (options : VMOptions) : Type 0 where
 abbrev pub AreWhole : List Round → Type 0
 AreWhole rounds = AllByRecursion (λ r. r.partial ≡ false) rounds
 
--- The answers of the handler's run over a journal, and those of these reports: one begins the
--- other.
+-- The answers of the handler's run over a journal, and those of these reports: one list is a
+-- prefix of the other.
 abbrev pub TellsAlong : Setup → Meaning → List Entry → List ReportView → Type 0
 TellsAlong s m journal reports =
     (first : RawMessage) (input : InputCommand) (rest : List RawMessage) (p : Point)

@@ -17,7 +17,7 @@ use vm_attempt::{Attempt, Progress};
 use vm_retries::RetryPolicy;
 use vm_types::{Handler, RunExitResult, VMResult};
 
-/// A round on its way, but for its attempt.
+/// A round on its way, without its attempt.
 #[derive(Drop)]
 pub struct Desk {
     pub alloc: Global,

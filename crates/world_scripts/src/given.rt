@@ -1,4 +1,4 @@
-//! The line `world`: what a world is made of, but for the version of its attempts.
+//! The line `world`: what a world is made of, except the version of its attempts.
 ghost use Rattle.std.specs.Prelude.{◌≡◌, IfErr, IfOk, codes, string_bytes};
 ghost use Rattle.lines.specs.Atoms.{IsAtom, IsText};
 ghost use Rattle.lines.specs.Readings.{Blames};
@@ -16,7 +16,7 @@ use std::alloc::{AllocError, Global};
 use vm_types::VMOptions;
 use world_rounds::Identity;
 
-/// What a world is made of, but for the version of its attempts.
+/// What a world is made of, except the version of its attempts.
 #[derive(Drop)]
 pub struct Given {
     pub identity: Identity,
