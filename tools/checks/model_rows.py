@@ -15,8 +15,8 @@ PAGE = "docs/internals/MODEL-ROWS.md"
 HEAD = "| In the engine | Rows | Written by |"
 RUNTIME = "python/src/palqytun/runtime"
 SCHEMA = f"{RUNTIME}/database/schema.py"
-ENGINE = ("crates/engine_fences", "crates/engines", "crates/engine_inboxes", "crates/engine_effects")
-KINDS = {"Happening": "crates/engines/src/types.rt", "Waiting": "crates/engine_inboxes/src/types.rt", "Effect": "crates/engine_effects/src/effect.rt"}
+ENGINE = ("crates/engine_fences", "crates/engines", "crates/engine_inboxes", "crates/journal_store")
+KINDS = {"Happening": "crates/engines/src/types.rt", "Waiting": "crates/engine_inboxes/src/types.rt", "Effect": "crates/journal_store/src/effect.rt"}
 QUOTED = re.compile(r"`([^`]+)`")
 TYPES = {"serial": "INTEGER PRIMARY KEY", "blob": "BLOB", "float": "REAL", "plain": "", "failed": "NULL"}
 

@@ -37,7 +37,7 @@ FAMILIES = (
     ),
     Family("store", "Stored journals", "What is stored of what an attempt wrote, and what may arrive.", ("journal_store",)),
     Family("world", "Worlds", "Many attempts over one journal, stopped anywhere.", ("world_rounds",), ("world_*",)),
-    Family("engine", "The engine", "Many invocations that call each other.", ("engine_effects", "engine_inboxes", "engines", "engine_fences")),
+    Family("engine", "The engine", "Many invocations that call each other.", ("engine_inboxes", "engines", "engine_fences")),
     Family(
         "handler",
         "Handlers",

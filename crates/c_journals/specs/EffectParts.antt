@@ -9,11 +9,11 @@ use Rattle.journal_protocol.specs.Signal.{Signal}
 use Rattle.journal_protocol.specs.Signal.TheVariants as signal
 use Rattle.journal_protocol.specs.ValueOrFailure.{ValueOrFailure}
 use Rattle.journal_entries.specs.Proposals.{completion_result}
-use Rattle.engine_effects.specs.declared.effect.Beginning.{Beginning}
-use Rattle.engine_effects.specs.declared.effect.Effect.{Effect}
-use Rattle.engine_effects.specs.declared.effect.Effect.TheVariants as effect
-use Rattle.engine_effects.specs.declared.effect.Sent.{Sent}
-use Rattle.engine_effects.specs.Effects.{effect_of}
+use Rattle.journal_store.specs.declared.effect.Beginning.{Beginning}
+use Rattle.journal_store.specs.declared.effect.Effect.{Effect}
+use Rattle.journal_store.specs.declared.effect.Effect.TheVariants as effect
+use Rattle.journal_store.specs.declared.effect.Sent.{Sent}
+use Rattle.journal_store.specs.Effects.{effect_of}
 use Rattle.c_frames.specs.Messages.{found_part, message_at, part_behind}
 use Rattle.c_frames.specs.Results.{notification_message}
 use Rattle.c_values.specs.declared.status.Status.{Status}

@@ -4,9 +4,9 @@ use Rattle.std.specs.Prelude.{ℕ, if◌then◌else◌, Bool, true, false, List,
 use Rattle.std.specs.Option.{unwrap_or}
 use Rattle.journal_protocol.specs.Message.{Message}
 use Rattle.journal_protocol.specs.Message.TheVariants as message
-use Rattle.engine_effects.specs.declared.effect.Effect.{Effect}
-use Rattle.engine_effects.specs.declared.effect.Effect.TheVariants as effect
-use Rattle.engine_effects.specs.Effects.{effect_of}
+use Rattle.journal_store.specs.declared.effect.Effect.{Effect}
+use Rattle.journal_store.specs.declared.effect.Effect.TheVariants as effect
+use Rattle.journal_store.specs.Effects.{effect_of}
 use Rattle.c_frames.specs.declared.numbers.FrameRow.{FrameRow}
 use Rattle.c_frames.specs.Messages.{message_at, message_row}
 use Rattle.c_values.specs.declared.status.Status.{Status}

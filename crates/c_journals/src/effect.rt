@@ -6,8 +6,8 @@ ghost use Rattle.c_journals.specs.Effects.{asked_of, asked_row, asking_row, effe
 use bytes::Bytes;
 use c_frames::{FrameRow, message_at, message_row};
 use c_values::Status;
-use engine_effects::{Effect, effect_of};
 use journal_protocol::Message;
+use journal_store::{Effect, effect_of};
 use std::alloc::{AllocError, Global};
 
 /// What a row asks for.

@@ -10,9 +10,9 @@ use crate::effect::is_asking;
 use bytes::Bytes;
 use c_frames::{message_at, write_part};
 use c_values::{Status, Told, tell, written};
-use engine_effects::{Beginning, Effect, Sent, effect_of};
 use journal_entries::completion_result;
 use journal_protocol::{Encoder, Message, Notification, NotificationId, Signal, ValueOrFailure};
+use journal_store::{Beginning, Effect, Sent, effect_of};
 use plain::Text;
 use std::alloc::{AllocError, Global};
 

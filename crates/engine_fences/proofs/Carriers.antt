@@ -21,8 +21,8 @@ use Rattle.journal_entries.specs.Journal.{read_before}
 use Rattle.vm_model.specs.Carried.{is_id_among}
 use Rattle.world_rounds.proofs.Once.{completes_not}
 use Rattle.world_rounds.specs.Outside.{IsRunIn}
-use Rattle.engine_effects.specs.Awakeables.{awakeable_named}
-use Rattle.engine_effects.specs.Effects.{awoken, completing_result, effect_of, timer_of}
+use Rattle.journal_store.specs.Awakeables.{awakeable_named}
+use Rattle.journal_store.specs.Effects.{awoken, completing_result, effect_of, timer_of}
 use Rattle.engine_inboxes.specs.declared.types.Brought.{Brought}
 use Rattle.engine_inboxes.specs.declared.types.Brought.TheVariants as brought
 use Rattle.engine_inboxes.specs.declared.types.Waiting.{Waiting}

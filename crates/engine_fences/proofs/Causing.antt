@@ -6,10 +6,10 @@ use Rattle.std.specs.Option.{option_and_then, option_map}
 use Rattle.std.proofs.lemmas.Bool.Decides.{nat_tests}
 use Rattle.journal_protocol.specs.NotificationResult.TheVariants as result
 use Rattle.journal_protocol.specs.ValueOrFailure.{ValueOrFailure}
-use Rattle.engine_effects.specs.declared.effect.Beginning.{Beginning}
-use Rattle.engine_effects.specs.declared.effect.Effect.{Effect}
-use Rattle.engine_effects.specs.declared.effect.Effect.TheVariants as effect
-use Rattle.engine_effects.specs.declared.effect.Timer.{Timer}
+use Rattle.journal_store.specs.declared.effect.Beginning.{Beginning}
+use Rattle.journal_store.specs.declared.effect.Effect.{Effect}
+use Rattle.journal_store.specs.declared.effect.Effect.TheVariants as effect
+use Rattle.journal_store.specs.declared.effect.Timer.{Timer}
 use Rattle.engine_inboxes.specs.declared.types.Brought.TheVariants as brought
 use Rattle.engine_inboxes.specs.declared.types.Waiting.{Waiting}
 use Rattle.engine_inboxes.specs.declared.types.Waiting.TheVariants as waiting

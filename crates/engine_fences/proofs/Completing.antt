@@ -26,8 +26,8 @@ use Rattle.world_rounds.specs.Rounds.{ReplaysAndQueues}
 use Rattle.world_rounds.specs.declared.types.Event.{Event}
 use Rattle.world_rounds.specs.declared.types.Event.TheVariants as event
 use Rattle.world_rounds.specs.declared.types.Setting.{Setting}
-use Rattle.engine_effects.specs.Effects.{completing_result}
-use Rattle.engine_effects.specs.declared.effect.Effect.{Effect}
+use Rattle.journal_store.specs.Effects.{completing_result}
+use Rattle.journal_store.specs.declared.effect.Effect.{Effect}
 use Rattle.engine_inboxes.specs.declared.types.Brought.{Brought}
 use Rattle.engine_inboxes.specs.declared.types.Waiting.{Waiting}
 use Rattle.engine_inboxes.specs.Deliverable.{CanAllCome, Entered, IsCarriedId, IsCarriedNote, IsUnwaited, MayBeStored, completes_waited, id_is_waited, is_waited, kinds_in, known_in, past_said, waited_by, waits_for_id}

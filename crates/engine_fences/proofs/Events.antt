@@ -6,9 +6,9 @@ use Rattle.std.proofs.lemmas.Bool.{cases_eq}
 use Rattle.std.proofs.lemmas.Option.{slice_get-map}
 use Rattle.vm_model.specs.Calls.{Meaning}
 use Rattle.journal_protocol.specs.ValueOrFailure.{ValueOrFailure}
-use Rattle.engine_effects.specs.declared.effect.Effect.{Effect}
-use Rattle.engine_effects.specs.declared.effect.Effect.TheVariants as effect
-use Rattle.engine_effects.specs.declared.effect.Sent.{Sent}
+use Rattle.journal_store.specs.declared.effect.Effect.{Effect}
+use Rattle.journal_store.specs.declared.effect.Effect.TheVariants as effect
+use Rattle.journal_store.specs.declared.effect.Sent.{Sent}
 use Rattle.engine_inboxes.specs.declared.types.Brought.{Brought}
 use Rattle.engine_inboxes.specs.declared.types.Waiting.{Waiting}
 use Rattle.engine_inboxes.proofs.Coming.{none_some}

@@ -12,8 +12,8 @@ use Rattle.journal_protocol.specs.Signal.{Signal}
 use Rattle.journal_protocol.specs.Signal.TheVariants as signal
 use Rattle.journal_entries.specs.Entries.{note_in}
 use Rattle.vm_model.specs.Calls.{Meaning}
-use Rattle.engine_effects.specs.declared.effect.Effect.{Effect}
-use Rattle.engine_effects.specs.declared.effect.Effect.TheVariants as effect
+use Rattle.journal_store.specs.declared.effect.Effect.{Effect}
+use Rattle.journal_store.specs.declared.effect.Effect.TheVariants as effect
 use Rattle.engine_inboxes.specs.declared.types.Brought.{Brought}
 use Rattle.engine_inboxes.specs.declared.types.Waiting.{Waiting}
 use Rattle.engine_inboxes.specs.declared.types.Waiting.TheVariants as waiting

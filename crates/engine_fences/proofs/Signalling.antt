@@ -20,10 +20,10 @@ use Rattle.journal_entries.specs.declared.storing.Written.{Written}
 use Rattle.journal_entries.specs.declared.storing.Written.TheVariants.{Command, Proposal}
 use Rattle.journal_entries.specs.Storing.{stored_as}
 use Rattle.vm_model.specs.Calls.{Meaning}
-use Rattle.engine_effects.specs.Effects.{completing_result}
-use Rattle.engine_effects.specs.declared.effect.Effect.{Effect}
-use Rattle.engine_effects.specs.declared.effect.Effect.TheVariants as effect
-use Rattle.engine_effects.specs.declared.effect.Sent.{Sent}
+use Rattle.journal_store.specs.Effects.{completing_result}
+use Rattle.journal_store.specs.declared.effect.Effect.{Effect}
+use Rattle.journal_store.specs.declared.effect.Effect.TheVariants as effect
+use Rattle.journal_store.specs.declared.effect.Sent.{Sent}
 use Rattle.engine_inboxes.specs.declared.types.Brought.{Brought}
 use Rattle.engine_inboxes.specs.declared.types.Brought.TheVariants as brought
 use Rattle.engine_inboxes.specs.declared.types.Waiting.{Waiting}

@@ -10,7 +10,7 @@ use Rattle.journal_protocol.specs.NotificationResult.TheVariants as result
 use Rattle.journal_protocol.specs.ValueOrFailure.{ValueOrFailure}
 use Rattle.vm_asks.specs.Carried.{carried}
 use Rattle.journal_entries.specs.Entries.{note_in, said_in}
-use Rattle.engine_effects.specs.Effects.{completing_result}
+use Rattle.journal_store.specs.Effects.{completing_result}
 use Rattle.engines.specs.declared.engine.Engine.{Engine}
 use Rattle.engines.specs.declared.engine.Invocation.{Invocation}
 use Rattle.engines.specs.Beginnings.{IsPastAll}

@@ -14,8 +14,8 @@ use Rattle.journal_protocol.specs.NotificationResult.TheVariants as result
 use Rattle.journal_protocol.specs.RawMessage.{RawMessage}
 use Rattle.journal_protocol.specs.CallCommand.{CallCommand}
 use Rattle.journal_protocol.specs.ValueOrFailure.{ValueOrFailure}
-use Rattle.engine_effects.specs.Awakeables.{awakeable_named}
-use Rattle.engine_effects.specs.Effects.{awoken, effect_of, timer_of}
+use Rattle.journal_store.specs.Awakeables.{awakeable_named}
+use Rattle.journal_store.specs.Effects.{awoken, effect_of, timer_of}
 use Rattle.journal_protocol.specs.Signal.{Signal}
 use Rattle.journal_protocol.specs.Signal.TheVariants as signal
 use Rattle.journal_protocol.specs.Bodies.{message_in, notification_in}

@@ -6,9 +6,9 @@ use Rattle.journal_protocol.specs.Message.{Message}
 use Rattle.journal_protocol.specs.Notification.{Notification}
 use Rattle.journal_protocol.specs.NotificationId.{NotificationId}
 use Rattle.journal_protocol.specs.NotificationId.TheVariants.{CompletionId, SignalId, SignalName}
-use Rattle.engine_effects.specs.declared.effect.Effect.{Effect}
-use Rattle.engine_effects.specs.declared.effect.Effect.TheVariants as effect
-use Rattle.engine_effects.specs.Effects.{effect_of}
+use Rattle.journal_store.specs.declared.effect.Effect.{Effect}
+use Rattle.journal_store.specs.declared.effect.Effect.TheVariants as effect
+use Rattle.journal_store.specs.Effects.{effect_of}
 use Rattle.journal_entries.specs.declared.completions.Completes.{Completes}
 use Rattle.journal_entries.specs.declared.completions.Completes.TheVariants as completes
 use Rattle.journal_entries.specs.Arrivals.{arrival_fault, completes_among, completes_id, room_fault}

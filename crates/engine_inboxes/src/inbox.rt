@@ -1,6 +1,6 @@
 //! An inbox: what waits, and what is next past all completion ids that the stored commands carry.
 ghost use Rattle.std.specs.Prelude.{◌≡◌, ◌<◌, ◌++◌, ◌∷◌, [], ℕ, List, None, length, slice_index_or, true, IfErr, IfOk, OnOk};
-ghost use Rattle.engine_effects.specs.Effects.{effect_of};
+ghost use Rattle.journal_store.specs.Effects.{effect_of};
 ghost use Rattle.engine_inboxes.specs.Ids.{past_new_ids};
 ghost use Rattle.engine_inboxes.specs.Notes.{note_by};
 ghost use Rattle.engine_inboxes.specs.declared.types.InboxFault.TheVariants as fault;
@@ -12,9 +12,9 @@ use crate::ids::past_all;
 use crate::notes::note_by;
 use crate::types::{Brought, InboxFault, Waiting};
 use bytes::Bytes;
-use engine_effects::{Effect, effect_of};
 use journal_entries::entry::{note_in, said_at};
 use journal_protocol::{Message, Notification, NotificationId, NotificationResult, Signal};
+use journal_store::{Effect, effect_of};
 use std::alloc::{AllocError, Global};
 
 /// What waits for an invocation.

@@ -1,6 +1,6 @@
 //! The notification that something which waits becomes.
 ghost use Rattle.std.specs.Prelude.{◌≡◌, IfOk};
-ghost use Rattle.engine_effects.specs.Effects.{completing_result};
+ghost use Rattle.journal_store.specs.Effects.{completing_result};
 ghost use Rattle.engine_inboxes.specs.Notes.{completion, note_by, signal_id, signal_note};
 
 use crate::types::{Brought, Waiting};

@@ -1,6 +1,6 @@
 //! What waits, and what is there for it.
-use engine_effects::Timer;
 use journal_protocol::{NotificationResult, Signal, ValueOrFailure};
+use journal_store::Timer;
 use plain::Text;
 
 /// What waits for an invocation, until it is delivered. A number is a completion id that one of its stored commands carries.

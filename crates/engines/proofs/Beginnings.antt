@@ -32,7 +32,7 @@ use Rattle.world_rounds.specs.Worlds.{setup_of}
 use Rattle.world_rounds.proofs.Completing.{input_carries_none}
 use Rattle.world_rounds.proofs.First.{first_made}
 use Rattle.world_rounds.proofs.Rising.{Rises, told_rises}
-use Rattle.engine_effects.specs.declared.effect.Effect.{Effect}
+use Rattle.journal_store.specs.declared.effect.Effect.{Effect}
 use Rattle.engine_inboxes.specs.declared.types.InboxFault.{InboxFault}
 use Rattle.engine_inboxes.specs.declared.types.InboxFault.TheVariants as inbox_fault
 use Rattle.engine_inboxes.specs.declared.types.Waiting.{Waiting}

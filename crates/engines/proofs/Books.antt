@@ -12,7 +12,7 @@ use Rattle.journal_protocol.specs.NotificationResult.TheVariants as result
 use Rattle.journal_protocol.specs.Signal.{Signal}
 use Rattle.journal_entries.specs.Arrivals.{completes_id, is_of}
 use Rattle.journal_entries.specs.Entries.{note_in, notes_in, said_at}
-use Rattle.engine_effects.specs.Effects.{effect_of}
+use Rattle.journal_store.specs.Effects.{effect_of}
 use Rattle.engine_inboxes.specs.declared.types.Brought.{Brought}
 use Rattle.engine_inboxes.specs.declared.types.Brought.TheVariants as brought
 use Rattle.engine_inboxes.specs.declared.types.Waiting.{Waiting}

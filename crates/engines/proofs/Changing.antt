@@ -4,7 +4,7 @@ use Rattle.std.specs.Prelude.{is_some, slice_get}
 use Rattle.std.specs.Option.{option_map}
 use Rattle.std.proofs.lemmas.List.{append_assoc, drop_more, get_or_at, length-append, length-drop, length-map, length-take-le, map_more, set_at, take_all}
 use Rattle.world_rounds.specs.Course.{BeginsRound}
-use Rattle.engine_effects.specs.declared.effect.Sent.{Sent}
+use Rattle.journal_store.specs.declared.effect.Sent.{Sent}
 use Rattle.engine_inboxes.specs.declared.order.Begun.{Begun}
 use Rattle.engine_inboxes.specs.declared.order.Callee.{Callee}
 use Rattle.engine_inboxes.specs.declared.order.Order.{Order}
@@ -15,11 +15,11 @@ use Rattle.engines.specs.Lookups.{id_of_place, may_begin, place_of, same_as}
 use Rattle.world_rounds.proofs.Lists.{split_at}
 use Rattle.engines.specs.declared.types.Happening.{Happening}
 use Rattle.journal_protocol.specs.ValueOrFailure.{ValueOrFailure}
-use Rattle.engine_effects.specs.declared.effect.Effect.TheVariants as effect
+use Rattle.journal_store.specs.declared.effect.Effect.TheVariants as effect
 use Rattle.engines.specs.declared.engine.Engine.{Engine}
 use Rattle.engines.specs.declared.engine.Invocation.{Invocation}
 use Rattle.vm_model.specs.Calls.{Meaning}
-use Rattle.engine_effects.specs.declared.effect.Effect.{Effect}
+use Rattle.journal_store.specs.declared.effect.Effect.{Effect}
 use Rattle.engine_inboxes.specs.declared.types.Brought.{Brought}
 use Rattle.engines.specs.Members.{Delivers, GoesBy, MemberView, StoresNextEntry, stopped, with_signal}
 use Rattle.engines.specs.Beginnings.{IsWholeInput, entry_of_input}

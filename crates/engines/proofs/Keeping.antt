@@ -19,10 +19,10 @@ use Rattle.journal_entries.specs.Entries.{note_in, notes_in, said_at}
 use Rattle.journal_entries.specs.JournalFrames.{notified_by}
 use Rattle.journal_entries.proofs.Framing.{notes_append}
 use Rattle.vm_model.specs.Calls.{Meaning}
-use Rattle.engine_effects.specs.Effects.{effect_of}
-use Rattle.engine_effects.specs.declared.effect.Beginning.{Beginning}
-use Rattle.engine_effects.specs.declared.effect.Effect.{Effect}
-use Rattle.engine_effects.specs.declared.effect.Effect.TheVariants as effect
+use Rattle.journal_store.specs.Effects.{effect_of}
+use Rattle.journal_store.specs.declared.effect.Beginning.{Beginning}
+use Rattle.journal_store.specs.declared.effect.Effect.{Effect}
+use Rattle.journal_store.specs.declared.effect.Effect.TheVariants as effect
 use Rattle.engine_inboxes.specs.declared.types.Brought.{Brought}
 use Rattle.engine_inboxes.specs.declared.types.Brought.TheVariants as brought
 use Rattle.engine_inboxes.specs.declared.types.Waiting.{Waiting}
@@ -32,7 +32,7 @@ use Rattle.engine_inboxes.specs.Deliverable.{CanAllCome, CanCome, Entered, IsPro
 use Rattle.engine_inboxes.proofs.Coming.{FitsId, command_adds, fits, none_some, note_said, said_note, some_same}
 use Rattle.world_rounds.specs.declared.types.Event.{Event}
 use Rattle.world_rounds.specs.declared.types.Event.TheVariants as event
-use Rattle.engine_effects.specs.declared.effect.Sent.{Sent}
+use Rattle.journal_store.specs.declared.effect.Sent.{Sent}
 use Rattle.world_rounds.specs.Course.{BeginsRound, CourseView, HappensTo}
 use Rattle.world_rounds.specs.Rounds.{Now}
 use Rattle.engines.specs.declared.engine.Engine.{Engine}

@@ -8,10 +8,10 @@ use Rattle.journal_protocol.specs.NotificationResult.{NotificationResult}
 use Rattle.journal_protocol.specs.NotificationResult.TheVariants as result
 use Rattle.journal_protocol.specs.ValueOrFailure.{ValueOrFailure}
 use Rattle.journal_entries.specs.Entries.{notes_in}
-use Rattle.engine_effects.specs.Effects.{completing_result}
-use Rattle.engine_effects.specs.declared.effect.Beginning.{Beginning}
-use Rattle.engine_effects.specs.declared.effect.Effect.{Effect}
-use Rattle.engine_effects.specs.declared.effect.Effect.TheVariants as effect
+use Rattle.journal_store.specs.Effects.{completing_result}
+use Rattle.journal_store.specs.declared.effect.Beginning.{Beginning}
+use Rattle.journal_store.specs.declared.effect.Effect.{Effect}
+use Rattle.journal_store.specs.declared.effect.Effect.TheVariants as effect
 use Rattle.engine_inboxes.specs.declared.types.Waiting.{Waiting}
 use Rattle.engine_inboxes.specs.declared.types.Waiting.TheVariants as waiting
 use Rattle.engine_inboxes.specs.Deliverable.{WaitOnce, effect_at, waited_by, waits_for_id}

@@ -12,10 +12,10 @@ use Rattle.world_rounds.specs.declared.types.Identity.{Identity}
 use Rattle.world_rounds.specs.declared.types.Round.{Round}
 use Rattle.world_rounds.specs.declared.types.Setting.{Setting}
 use Rattle.world_rounds.specs.Course.{BeginsRound}
-use Rattle.engine_effects.specs.declared.effect.Beginning.{Beginning}
-use Rattle.engine_effects.specs.declared.effect.Effect.{Effect}
-use Rattle.engine_effects.specs.declared.effect.Effect.TheVariants as effect
-use Rattle.engine_effects.specs.declared.effect.Sent.{Sent}
+use Rattle.journal_store.specs.declared.effect.Beginning.{Beginning}
+use Rattle.journal_store.specs.declared.effect.Effect.{Effect}
+use Rattle.journal_store.specs.declared.effect.Effect.TheVariants as effect
+use Rattle.journal_store.specs.declared.effect.Sent.{Sent}
 use Rattle.journal_protocol.specs.ValueOrFailure.{ValueOrFailure}
 use Rattle.engine_inboxes.specs.declared.types.Brought.{Brought}
 use Rattle.engines.specs.declared.types.Happening.{Happening}

@@ -5,7 +5,7 @@ use Rattle.journal_protocol.specs.Notification.{Notification}
 use Rattle.journal_protocol.specs.NotificationResult.{NotificationResult}
 use Rattle.journal_protocol.specs.Signal.{Signal}
 use Rattle.vm_model.specs.Calls.{Meaning}
-use Rattle.engine_effects.specs.declared.effect.Effect.{Effect}
+use Rattle.journal_store.specs.declared.effect.Effect.{Effect}
 use Rattle.journal_entries.specs.Entries.{note_in}
 use Rattle.engine_inboxes.specs.declared.types.Brought.{Brought}
 use Rattle.engine_inboxes.specs.Notes.{note_by}

@@ -10,9 +10,9 @@ ghost use Rattle.world_rounds.specs.Rounds.{ReplaysAndQueues};
 
 use crate::engine::{Engine, whole_round};
 use crate::types::Happening;
-use engine_effects::Effect;
 use engine_inboxes::{Brought, EngineFault, Order, Target};
 use journal_protocol::Version;
+use journal_store::Effect;
 use std::alloc::{AllocError, Global};
 use vm_types::{Handler, VMOptions};
 use world_rounds::Event;

@@ -13,11 +13,11 @@ ghost use Rattle.world_rounds.specs.Rounds.{ReplaysAndQueues};
 ghost use Rattle.world_rounds.specs.declared.types.Event.TheVariants as event;
 
 use bytes::Bytes;
-use engine_effects::Effect;
 use engine_inboxes::{
     Brought, EngineFault, Inbox, InboxFault, Waiting, arrival_of, inbox_of, stored_of,
 };
 use journal_protocol::{Encoder, Message, Notification, NotificationResult, Signal};
+use journal_store::Effect;
 use std::alloc::{AllocError, Global};
 use std::marker::Model;
 use vm_types::Handler;

@@ -7,9 +7,9 @@ ghost use Rattle.engines.specs.Lookups.{brought_for, callee_in, callee_of, calle
 ghost use Rattle.engine_inboxes.specs.Faults.{IsMemoryOrFull};
 
 use crate::engine::{Engine, Invocation};
-use engine_effects::{Beginning, Effect, Sent};
 use engine_inboxes::{Begun, Brought, Callee, EngineFault, Order, Waiting};
 use journal_protocol::{Failure, ValueOrFailure};
+use journal_store::{Beginning, Effect, Sent};
 use plain::{Items, Text};
 use std::alloc::{AllocError, Global};
 use vm_types::Handler;

@@ -3,3 +3,5 @@ pub mod Ids
 pub mod Entered
 pub mod Journals
 pub mod Stored
+pub mod Awakeables
+pub mod Effects

@@ -1,6 +1,6 @@
 // Frames that are printed and read again.
 use bytes::Bytes;
-use frame_laws::print_and_read;
+use frame_runs::round_trip::print_and_read;
 use journal_protocol::{MessageType, RawMessage};
 use std::alloc::Global;
 use std::test::Fail;

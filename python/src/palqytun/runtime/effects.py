@@ -40,7 +40,7 @@ _AWAKEABLE = "sign_1"  # the beginning of each one's id
 
 
 def awakeable_of(id: str) -> tuple[str, int]:
-    """Whose signal completes an awakeable, and its number. No other text names the same, as in the core's engine (`engine_effects`)."""
+    """Whose signal completes an awakeable, and its number. No other text names the same, as in the core's engine (`journal_store`)."""
     text = id.removeprefix(_AWAKEABLE)
     try:
         data = base64.urlsafe_b64decode(text + "=" * (-len(text) % 4))

@@ -1,2 +1,0 @@
-pub mod Awakeables
-pub mod Effects
