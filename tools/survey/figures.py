@@ -12,7 +12,7 @@ from .copies import LEAST, Copy, copies, repeated
 from .families import FAMILIES, families, family_of, upward
 from .imports import Named, Names, passed_on
 from .listed import unnamed
-from .places import Place, crates_of, places
+from .places import Place, by_hand, crates_of, places, writers
 from .rust import Function, functions
 from .spellings import Name
 from .tree import House
@@ -128,8 +128,10 @@ class Survey:
         yield Figure("imports by a second name", len(self.second), said, tuple(counted(f"{it.home}::{it.item} by {it.by}" for it in self.second)))
         passed = tuple(counted(f"{crate}: {home}" for crate, _, home in self.passed_on))
         yield Figure("items passed on", len(self.passed_on), "by crates that may not, in src, specs and proofs", passed)
-        many = len(self.touched)
-        yield Figure("files of a new command", many, f"in {len(crates_of(self.touched))} crates, as tools/where {COMMAND} lists them")
+        edited = by_hand(self.touched)
+        yield Figure("files of a new command", len(edited), f"in {len(crates_of(edited))} crates, as tools/where {COMMAND} lists them")
+        written = len(self.touched) - len(edited)
+        yield Figure("files of it that commands write", written, f"by {', '.join(writers(self.touched))}" if written else "")
 
 
 def counted(words: Iterable[str]) -> list[str]:

@@ -12,22 +12,12 @@ from pathlib import Path
 from .phrases import phrase
 from .spellings import Name
 from .tree import PARTS, House
+from .written import written_by
 
-# A line that shows how this command is called names nothing that a change touches; neither do the files of the survey, nor files that a
-# command writes, nor what stands in for modules of the original where it is measured.
+# A line that shows how this command is called names nothing that a change touches; neither do the files of the survey, nor what stands in for
+# modules of the original where it is measured.
 CALL = re.compile(r"tools/where\b")
-WRITTEN = (
-    *("bindings/calls.c", "bindings/flat.c", "bindings/palqytun.abi", "bindings/palqytun_flat.h", "bindings/proved.h"),
-    *("bindings/rust/src/sys.rs", "bindings/go/abi.go", "bindings/go/palqytun_abi.c", "bindings/go/palqytun_abi.h"),
-    *("bindings/node/lib/abi.d.ts", "bindings/node/lib/abi.js", "bindings/node/src/calls.c"),
-    *("bindings/node/src/palqytun_abi.c", "bindings/node/src/palqytun_abi.h"),
-    *("bindings/ruby/ext/palqytun/calls.c", "bindings/ruby/ext/palqytun/palqytun_abi.c", "bindings/ruby/ext/palqytun/palqytun_abi.h"),
-    *("bindings/java/src/main/c/calls.c", "bindings/java/src/main/c/palqytun_abi.c", "bindings/java/src/main/c/palqytun_abi.h"),
-    *(f"bindings/java/src/main/java/palqytun/{it}.java" for it in ("Abi", "Calls", "CommandType", "MessageType")),
-    *("bindings/ruby/lib/palqytun/abi.rb", "docs/API.md", "docs/guarantees/", "python/src/palqytun/_abi.py", "python/src/palqytun/_structs.py"),
-    *("python/extension/calls.c", "python/extension/palqytun_abi.c", "python/extension/palqytun_abi.h"),
-)
-OWN = ("tools/survey/", "tools/benchmarks/original/", *WRITTEN)
+OWN = ("tools/survey/", "tools/benchmarks/original/")
 DATA = ("rows", "runs", "stdin", "stdout", "args", "data")
 
 
@@ -46,6 +36,7 @@ GROUPS = (
     Group("C and Python: examples and their output", ("bindings/",)),
     Group("Python: the package", ("python/src/", "python/extension/")),
     Group("Python: tests, examples, benches", ("python/tests/", "python/examples/", "python/bench/")),
+    Group("TypeScript: the SDK", ("typescript/",)),
     Group("the simulation", ("tools/simulation/", "tools/simulate")),
     Group("rules and checks, and the commands of tools", (".ci/", "tools/")),
     Group("commands at the top", ("demo", "prove", "test")),
@@ -56,12 +47,13 @@ GROUPS = (
 
 @dataclass(frozen=True)
 class Place:
-    """A file that names something: how many of its lines do, the first of them, and where in the order it stands."""
+    """A file that names something: which of its lines do, where in the order it stands, and the command that writes it, if one does."""
 
     path: Path
     lines: tuple[int, ...]
     group: str
     phrase: str
+    written_by: str = ""
 
     @property
     def crate(self) -> str | None:
@@ -83,7 +75,9 @@ def order(house: House, path: Path) -> tuple[int, int, str]:
     return len(house.crates) + at, 0, str(path)
 
 
-def title(house: House, path: Path) -> str:
+def title(house: House, path: Path, by: str) -> str:
+    if by:
+        return f"written by {by}, and not by hand"
     at, _, _ = order(house, path)
     return list(house.crates)[at] if at < len(house.crates) else GROUPS[at - len(house.crates)].title
 
@@ -97,15 +91,21 @@ def named_lines(text: str, names: list[Name]) -> tuple[int, ...]:
 
 
 def places(house: House, names: list[Name]) -> list[Place]:
-    """Returns the files that name one of these, in the text or in their path, in the order of a change."""
+    """Returns the files that name one of these, in the text or in their path, in the order of a change; those that commands write are the last."""
     found = []
     for path, text in house.texts.items():
         if str(path).startswith(OWN):
             continue
         lines = named_lines(text, names)
         if lines or any(it.may_stand_in(str(path)) and it.pattern.search("/".join(path.parts[2:])) for it in names):
-            found.append(Place(path, lines, title(house, path), phrase(path, text)))
-    return sorted(found, key=lambda it: order(house, it.path))
+            by = written_by(path, text)
+            found.append(Place(path, lines, title(house, path, by), phrase(path, text), by))
+    return sorted(found, key=lambda it: (it.written_by, order(house, it.path)))
+
+
+def by_hand(found: list[Place]) -> list[Place]:
+    """Returns those places that people edit."""
+    return [it for it in found if not it.written_by]
 
 
 def spellings(house: House, found: list[Place], names: list[Name]) -> Counter[str]:
@@ -126,9 +126,17 @@ def crates_of(found: list[Place]) -> list[str]:
 
 def summary(names: list[Name], found: list[Place]) -> str:
     """Returns how many files and crates names touch, in one line."""
-    data = sum(is_data(it.path) for it in found)
+    edited = by_hand(found)
+    data = sum(is_data(it.path) for it in edited)
     of_data = f", {data} of them rows and runs" if data else ""
-    return f"{' '.join(it.name for it in names)}: {len(found)} files in {len(crates_of(found))} crates{of_data}"
+    more = len(found) - len(edited)
+    written = f"; {more} more are written by {', '.join(writers(found))}" if more else ""
+    return f"{' '.join(it.name for it in names)}: {len(edited)} files in {len(crates_of(edited))} crates{of_data}{written}"
+
+
+def writers(found: list[Place]) -> list[str]:
+    """Returns the commands that write some of these places."""
+    return sorted({it.written_by for it in found if it.written_by})
 
 
 def listing(house: House, found: list[Place], names: list[Name], with_lines: bool) -> Iterator[str]:

@@ -1,8 +1,9 @@
 """Lists what a command, a field, an option, an error, a version, an event or a fault touches, in the order to edit.
 
-usage: tools/where NAME ..            lists the files that name it, crate by crate, bottom up; then C, Python, rules, rows, pages
+usage: tools/where NAME ..            lists the files that name it, crate by crate, bottom up; then C, Python, rules, rows, pages, and last
+                                      those that commands write from the others
        tools/where NAME .. --count    prints how many files and crates there are
-       tools/where NAME .. --edit     prints the paths alone
+       tools/where NAME .. --edit     prints the paths alone of those that people edit
        tools/where NAME .. --lines    prints each line that names it
        tools/where NAME .. --alone    passes over longer names; goes with each of these
 
@@ -17,7 +18,7 @@ import argparse
 import sys
 from pathlib import Path
 
-from .places import alike, listing, places, spellings, summary
+from .places import alike, by_hand, listing, places, spellings, summary
 from .spellings import Name
 from .tree import Fault, House
 
@@ -40,7 +41,7 @@ def said(house: House, names: list[Name], how: argparse.Namespace) -> list[str]:
     if not found:
         raise Fault(nothing(house, names))
     if how.edit:
-        return [str(it.path) for it in found]
+        return [str(it.path) for it in by_hand(found)]
     if how.count:
         return [summary(names, found)]
     spelled = ", ".join(f"{it} {count}" for it, count in spellings(house, found, names).most_common(12))

@@ -27,6 +27,7 @@ FILES = {
     "crates/lines/src/lib.rt": f"//! Lines.\n{SIX}",
     "crates/c_sessions/src/lib.rt": "//! Sessions.\nuse vm_parts::Step;\nuse lines::L;\n",
     "crates/vm_vectors/src/lib.rt": "//! Rows.\nuse vm_parts::Step;\nfn row() { vm_parts::Step }\n",
+    "bindings/calls.c": "/* tools/header --write writes this file. */\nint peek_promise;\n",
 }
 VALUES = {
     "crates": 7,
@@ -44,6 +45,7 @@ VALUES = {
     "imports by a second name": 2,
     "items passed on": 1,
     "files of a new command": 1,
+    "files of it that commands write": 1,
 }
 
 
