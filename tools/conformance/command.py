@@ -16,9 +16,11 @@ from . import suite
 TOP = Path(__file__).resolve().parents[2]
 SECONDS = 2400  # for a player
 SHOWN = 20  # differences that are printed
+WRITTEN = "PALQYTUN_SUITE"  # the variable that names a file in which this command has written the suite of these rows
 ABOUT = """Plays the conformance suite: the rows of vmscript through the typed calls of a binding. A PLAYER is a command that reads the suite on
 standard input, a row a line; for each row it prints 'ok ROW', or lines that say what differs and then 'not ok ROW'. By default the player is
-that of Python. The last line is 'N passed, M failed': rows."""
+that of Python. The last line is 'N passed, M failed': rows. If PALQYTUN_SUITE names a file that --write made of these rows, the suite is taken
+from there."""
 
 
 def arguments(words: list[str]) -> argparse.Namespace:
@@ -45,30 +47,38 @@ def played(words: list[str], rows: Path, count: int) -> tuple[int, int]:
     return passed, max(count - passed, 1 if status else 0)
 
 
+def rows_of(is_all: bool) -> str:
+    """The suite, a row a line, from the rows as they stand. What is in it is printed."""
+    found = suite.read(is_all)
+    print(f"{len(found.rows)} rows, {sum(len(it.steps) for it in found.rows)} calls")
+    for why, count in sorted(found.cut.items()):
+        print(f"{count} rows end before {why}")
+    return "".join(f"{it.json}\n" for it in found.rows)
+
+
 def main(words: list[str]) -> int:
     options = arguments(words)
     os.chdir(TOP)
+    written = None if options.all or options.write else os.environ.get(WRITTEN)
     try:
-        found = suite.read(options.all)
+        text = Path(written).read_text(encoding="utf-8") if written else rows_of(options.all)
     except BadRow as error:
         print(error)
         print("0 passed, 1 failed")
         return 1
-    print(f"{len(found.rows)} rows, {sum(len(it.steps) for it in found.rows)} calls")
-    for why, count in sorted(found.cut.items()):
-        print(f"{count} rows end before {why}")
     if options.write:
-        options.write.write_text("".join(f"{it.json}\n" for it in found.rows), encoding="utf-8")
+        options.write.write_text(text, encoding="utf-8")
         return 0
     if options.library:
         os.environ["PALQYTUN_LIBRARY"] = str(options.library.resolve())
     players = [it.split() for it in options.players] or [[sys.executable, "-m", "tools.conformance.python_player"]]
     passed = failed = 0
+    count = text.count("\n")
     with tempfile.TemporaryDirectory() as room:
         rows = Path(room, "rows.jsonl")
-        rows.write_text("".join(f"{it.json}\n" for it in found.rows), encoding="utf-8")
+        rows.write_text(text, encoding="utf-8")
         for player in players:
-            one, other = played(player, rows, len(found.rows))
+            one, other = played(player, rows, count)
             passed, failed = passed + one, failed + other
     print(f"{passed} passed, {failed} failed")
     return 1 if failed else 0
