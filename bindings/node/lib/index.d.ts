@@ -12,7 +12,9 @@ import type {
   State,
   Status,
 } from './abi';
+import type { Effect } from './effects';
 
+export type { Effect };
 export type {
   AwaitingOnPolicy,
   CommandType,
@@ -230,11 +232,13 @@ export class VM {
   sysEnd(): void;
 }
 
-/** An entry to be appended: the type of its message, the completion id that it completes, and its bytes. */
+/** An entry to be appended: the type of its message, the completion id that it completes, and its bytes. `effect` is what a row that was stored asks of
+ * the runtime, which performs it in the same transaction. */
 export interface Row {
   message: MessageType;
   completes: number | undefined;
   frame: Uint8Array;
+  effect: Effect | undefined;
 }
 
 /** A stored journal, as its only writer knows it, without its entries. What may not be appended is a `StatusError`; what came since the last `keep` is
@@ -246,8 +250,8 @@ export class Journal {
   readonly entries: number;
   entry(frame: Uint8Array): Row;
   arrive(notification: Uint8Array): Row;
-  /** The rows of what an attempt of this version wrote since the last store, and what it is fed after the commit. `frames.Message` reads what a row asks
-   * a runtime for. */
+  /** The rows of what an attempt of this version wrote since the last store, and what it is fed after the commit. A command whose message can't be read is
+   * a `StatusError` too, with `NOT_A_FRAME`. */
   store(version: number, output: Uint8Array): { rows: Row[]; feed: Uint8Array };
   keep(): void;
   undo(): void;

@@ -4,11 +4,12 @@
 const { MessageType, NUMBERS } = require('./abi');
 const { addon, done, written } = require('./addon');
 const lent = require('./arguments');
+const { effectOf } = require('./effects');
 const { StatusError, caseOf } = require('./errors');
 
-function rowOf(it, frame) {
+function rowOf(it, frame, effect) {
   done(it.status);
-  return { message: caseOf(MessageType, it.type), completes: it.is_completion ? it.completes : undefined, frame };
+  return { message: caseOf(MessageType, it.type), completes: it.is_completion ? it.completes : undefined, frame, effect };
 }
 
 class Journal {
@@ -51,10 +52,19 @@ class Journal {
   store(version, output) {
     const stored = this.#addon.journal_store(this.#handle, lent.version('version', version), lent.bytes('output', output));
     done(stored.status);
-    const rows = Array.from({ length: stored.rows }, (_, at) => {
-      return rowOf(this.#addon.journal_row(this.#handle, at), written(this.#addon.journal_frame(this.#handle, at)));
-    });
-    return { rows, feed: written(this.#addon.journal_answer(this.#handle)) };
+    try {
+      const rows = Array.from({ length: stored.rows }, (_, at) => this.#row(at));
+      return { rows, feed: written(this.#addon.journal_answer(this.#handle)) };
+    } catch (error) {
+      if (error instanceof StatusError && error.status === 'NOT_A_FRAME') this.undo();
+      throw error;
+    }
+  }
+
+  /** A row of the last store, with what it asks for. */
+  #row(at) {
+    const [row, frame] = [this.#addon.journal_row(this.#handle, at), written(this.#addon.journal_frame(this.#handle, at))];
+    return rowOf(row, frame, effectOf(this.#addon, this.#handle, at, row.type, frame));
   }
 
   keep() {

@@ -14,7 +14,9 @@ if (value?.kind === 'failure') console.log(value.message, input.randomSeed + 1n)
 vm.notifyError({ code: 418, message: 'no tea', behavior: 'pause' }, { type: 'sleep', index: 3 });
 vm.sysAttachInvocation({ workflow: 'signup', key: 'ada' });
 vm.sysWriteOutput({ code: 409, message: 'cancelled' });
-new Journal([bytes]).store(7, vm.takeOutput()).rows.map((row) => new frames.Message(row.frame).text(0));
+const { rows } = new Journal([bytes]).store(7, vm.takeOutput());
+rows.map((row) => new frames.Message(row.frame).text(0));
+for (const { effect } of rows) if (effect?.kind === 'begin') console.log(effect.service, effect.timeMillis + 1n, effect.completes ?? 0);
 const is = (error: unknown): boolean => error instanceof Suspended && error.code === 599;
 is(null);
 
