@@ -103,7 +103,7 @@ declare const Buffer: {
 };
 
 declare class TextDecoder {
-  constructor(encoding: string, options?: { fatal?: boolean });
+  constructor(encoding: string, options?: { fatal?: boolean; ignoreBOM?: boolean });
   decode(data: Uint8Array): string;
 }
 

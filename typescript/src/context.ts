@@ -454,6 +454,8 @@ export class Context implements Scope {
 
   #target(callee: Callee<never, unknown>, options: CallOptions): Target {
     const [service, handler] = typeof callee === 'string' ? parts(callee) : [callee.service, callee.name];
+    checkName("the service's name", service);
+    checkName("the handler's name", handler);
     if (options.key !== undefined) checkName('the key', options.key);
     if (options.idempotencyKey !== undefined) checkName('the idempotency key', options.idempotencyKey);
     const headers: Pair[] = withQueue(options.headers, options);

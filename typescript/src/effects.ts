@@ -1,10 +1,14 @@
-/** What a stored command does, in the transaction that stores it; so it is done once. */
+/**
+ * What a stored row asks for is done, in the transaction that stores it; so it is done once. What each row asks for is said by the core, or is an attribute,
+ * which is the runtime's own. No frame is read here.
+ */
 
 import { frames } from 'palqytun';
+import type { Effect, Row } from 'palqytun';
 import { deliver, newest, send } from './delivery';
 import { TerminalError } from './errors';
-import { Kind, VOID, awakeableOf, failure, invocationId, isAttribute, keys } from './frames';
-import type { Frame } from './frames';
+import { VOID, attributeIn, failure, invocationId, isThere, keys } from './frames';
+import type { Attribute } from './frames';
 import { idOfCall, seedOf } from './hash';
 import { create } from './invocations';
 import type { New } from './invocations';
@@ -12,8 +16,6 @@ import type { Codec } from './sealing';
 import type { About } from './services';
 import type { Statements } from './tables';
 import { setAside } from './unserved';
-
-type Message = InstanceType<typeof frames.Message>;
 
 /** Whose commands these are. */
 export interface Own {
@@ -27,55 +29,94 @@ export interface Own {
   readonly codec: Codec;
 }
 
-/** Does what a command asks for; returns the notifications that it brings at once. */
-export async function perform(to: Statements, own: Own, frame: Frame): Promise<Uint8Array[]> {
-  if (isAttribute(frame)) return attributes(to, own, new frames.Message(frame.bytes).text(0));
-  const performs = PERFORMED[frame.kind];
-  return performs === undefined ? [] : performs(to, own, new frames.Message(frame.bytes), frame.bytes);
+export type Asked = Effect | Attribute;
+type Of<Kind extends Asked['kind']> = Extract<Asked, { kind: Kind }>;
+
+const UTF8 = new TextDecoder('utf-8', { fatal: true, ignoreBOM: true });
+
+/** What stored rows ask for, in their order. */
+export function askedBy(rows: readonly Row[]): Asked[] {
+  return rows.map((row) => row.effect ?? attributeIn(row)).filter((it): it is Asked => it !== undefined);
 }
 
-type Performs = (to: Statements, own: Own, it: Message, frame: Uint8Array) => Promise<Uint8Array[]>;
+/** Does what is asked for; returns the notifications that it brings at once. */
+export async function perform(to: Statements, own: Own, it: Asked): Promise<Uint8Array[]> {
+  switch (it.kind) {
+    case 'begin':
+      return begins(to, own, it);
+    case 'wait':
+      return waits(to, own, it);
+    case 'send':
+      return sends(to, it);
+    case 'change':
+      return changes(to, own, it);
+    case 'read':
+      return reads(to, own, it);
+    case 'promise':
+      return it.result === undefined ? looksAtPromise(to, own, it) : completesPromise(to, own, it, it.result);
+    case 'attach':
+      return attachesTo(to, own, it);
+    case 'attribute':
+      return attributes(to, own, it);
+    case 'output':
+      return []; // an end gives the result to those that wait
+  }
+}
 
 /** A time of a command, which is by this process's clock, by the database's. */
-function dueOf(to: Statements, it: Message): number {
-  return to.now + (Number(it.number) - Date.now()) / 1000;
+function dueOf(to: Statements, millis: bigint): number {
+  return to.now + (Number(millis) - Date.now()) / 1000;
 }
 
-/** An attribute of the invocation is set, or taken away; the name of its run has both as JSON. */
-async function attributes(to: Statements, own: Own, run: string): Promise<Uint8Array[]> {
-  const [name, said] = JSON.parse(run.slice(run.indexOf('['))) as [string, string?];
-  if (said === undefined) await to.change('no-attribute', { id: own.id, name });
-  else await to.change('attribute', { id: own.id, name, said });
+/** An attribute of the invocation is set, or taken away. */
+async function attributes(to: Statements, own: Own, { name, value }: Attribute): Promise<Uint8Array[]> {
+  if (value === undefined) await to.change('no-attribute', { id: own.id, name });
+  else await to.change('attribute', { id: own.id, name, said: value });
   return [];
 }
 
-async function sleeps(to: Statements, own: Own, it: Message): Promise<Uint8Array[]> {
-  const due = dueOf(to, it);
-  await to.change('timer', { due, id: own.id, completes: it.id });
+async function waits(to: Statements, own: Own, it: Of<'wait'>): Promise<Uint8Array[]> {
+  const due = dueOf(to, it.timeMillis);
+  await to.change('timer', { due, id: own.id, completes: it.completes });
   to.isDue(due);
   return [];
 }
 
-async function calls(to: Statements, own: Own, it: Message): Promise<Uint8Array[]> {
-  const given = idOfCall(own.id, it.second);
-  const isAwaited = it.type === 'callCommand';
-  const named = (id: string): Uint8Array => frames.completion(it.second, invocationId(id));
+async function begins(to: Statements, own: Own, it: Of<'begin'>): Promise<Uint8Array[]> {
+  const given = idOfCall(own.id, it.idCompletes);
+  const named = (id: string): Uint8Array => frames.completion(it.idCompletes, invocationId(id));
   const asked: New = {
-    id: given, seed: seedOf(given), service: it.text(1), handler: it.text(2), key: it.text(3), argument: own.codec.renewed(it.part(0) ?? new Uint8Array()),
-    headers: it.pairs(8), idempotencyKey: it.part(4) === undefined ? null : it.text(4), due: it.number === 0n ? null : dueOf(to, it),
-    parent: own.id, trace: own.trace,
+    id: given, seed: seedOf(given), service: it.service, handler: it.handler, key: it.key, argument: own.codec.renewed(it.parameter), headers: it.headers,
+    idempotencyKey: it.idempotencyKey ?? null, due: it.timeMillis === 0n ? null : dueOf(to, it.timeMillis), parent: own.id, trace: own.trace,
   }; // prettier-ignore
   try {
     const { id, isNew } = await create(to, own, asked);
-    if (!isAwaited) return [named(id)];
-    if (!isNew) return [named(id), ...(await attaches(to, own, id, it.id))];
-    await to.change('wait', { invocation: id, id: own.id, completes: it.id });
+    if (it.completes === undefined) return [named(id)];
+    if (!isNew) return [named(id), ...(await attaches(to, own, id, it.completes))];
+    await to.change('wait', { invocation: id, id: own.id, completes: it.completes });
     return [named(id)];
   } catch (error) {
     if (!(error instanceof TerminalError)) throw error;
-    if (!isAwaited) await setAside(to, asked, error);
-    return [named(given), ...(isAwaited ? [frames.completion(it.id, failure(error.code, error.message))] : [])];
+    if (it.completes !== undefined) return [named(given), frames.completion(it.completes, failure(error.code, error.message))];
+    await setAside(to, asked, error);
+    return [named(given)];
   }
+}
+
+async function attachesTo(to: Statements, own: Own, it: Of<'attach'>): Promise<Uint8Array[]> {
+  const target = await targetOf(to, own, it.target);
+  return it.peeks ? looks(to, target, it.completes) : attaches(to, own, target, it.completes);
+}
+
+/** The id by which an invocation is named, or that of the one with this idempotency key, or of a workflow's; the empty text if there is none. */
+async function targetOf(to: Statements, own: Own, it: Of<'attach'>['target']): Promise<string> {
+  if ('invocationId' in it) return isThere(it.invocationId) ? it.invocationId : '';
+  const main = (service: string): string => [...(own.services.get(service)?.handlers.values() ?? [])].find((one) => one.exclusive)?.name ?? '';
+  const place =
+    'workflow' in it
+      ? { service: it.workflow, handler: main(it.workflow), key: it.key, idem: '' }
+      : { service: it.service, handler: it.handler, key: it.serviceKey ?? '', idem: it.idempotencyKey };
+  return String((await to.rows('named', place))[0]?.[0] ?? '');
 }
 
 async function attaches(to: Statements, own: Own, target: string, completes: number): Promise<Uint8Array[]> {
@@ -97,68 +138,60 @@ async function looks(to: Statements, target: string, completes: number): Promise
   return [frames.completion(completes, (found[0]?.[0] as Uint8Array | null) ?? VOID())];
 }
 
-async function readsState(to: Statements, own: Own, it: Message): Promise<Uint8Array[]> {
+async function reads(to: Statements, own: Own, it: Of<'read'>): Promise<Uint8Array[]> {
   const rows = await to.rows('state', { service: own.service, key: own.key });
-  const name = it.type === 'getLazyStateCommand' ? it.text(0) : undefined;
-  if (name === undefined) {
+  if (it.name === undefined) {
     const names = rows.map(([one]) => Buffer.from(String(one), 'utf8')).sort(Buffer.compare);
-    return [frames.completion(it.id, keys(names.map((one) => one.toString('utf8'))))];
+    return [frames.completion(it.completes, keys(names.map((one) => one.toString('utf8'))))];
   }
-  const found = rows.find(([one]) => one === name);
-  return [frames.completion(it.id, found === undefined ? VOID() : frames.valueFrame(found[1] as Uint8Array))];
+  const found = rows.find(([one]) => one === it.name);
+  return [frames.completion(it.completes, found === undefined ? VOID() : frames.valueFrame(found[1] as Uint8Array))];
 }
 
-async function promises(to: Statements, own: Own, it: Message, frame: Uint8Array): Promise<Uint8Array[]> {
-  const place = { service: own.service, key: own.key, name: it.text(0) };
-  const found = ((await to.rows('promise', place))[0]?.[0] ?? null) as Uint8Array | null;
-  if (it.type === 'completePromiseCommand') {
-    if (found !== null) return [frames.completion(it.id, failure(409, 'the promise was completed before'))];
-    for (const [waiter, completes] of await to.rows('complete-promise', { ...place, result: frame })) {
-      await deliver(to, String(waiter), frames.completion(completes as number, frame));
-    }
-    return [frames.completion(it.id, VOID())];
-  }
-  if (found === null && it.type === 'getPromiseCommand') {
-    await to.change('await-promise', { ...place, id: own.id, completes: it.id });
-    return [];
-  }
-  return [frames.completion(it.id, found ?? VOID())];
+/** The result of a promise, which is made if it isn't there, and kept until the commit. */
+async function promised(to: Statements, place: Readonly<Record<string, string>>): Promise<Uint8Array | null> {
+  return ((await to.rows('promise', place))[0]?.[0] ?? null) as Uint8Array | null;
 }
 
-async function completes(to: Statements, _: Own, it: Message, frame: Uint8Array): Promise<Uint8Array[]> {
-  const found = awakeableOf(it.text(0));
-  if (found !== undefined) await deliver(to, found.invocation, frames.signal(found.signal, frame));
+async function looksAtPromise(to: Statements, own: Own, it: Of<'promise'>): Promise<Uint8Array[]> {
+  const place = { service: own.service, key: own.key, name: it.name };
+  const found = await promised(to, place);
+  if (found !== null || it.peeks) return [frames.completion(it.completes, found ?? VOID())];
+  await to.change('await-promise', { ...place, id: own.id, completes: it.completes });
   return [];
 }
 
-async function signals(to: Statements, _: Own, it: Message, frame: Uint8Array): Promise<Uint8Array[]> {
-  const notification = it.kind === 2 ? frames.namedSignal(it.text(1), frame) : frames.signal(it.id, frame);
-  await send(to, it.text(0), notification);
+async function completesPromise(to: Statements, own: Own, it: Of<'promise'>, result: Uint8Array): Promise<Uint8Array[]> {
+  const place = { service: own.service, key: own.key, name: it.name };
+  if ((await promised(to, place)) !== null) return [frames.completion(it.completes, failure(409, 'the promise was completed before'))];
+  for (const [waiter, completes] of await to.rows('complete-promise', { ...place, result })) {
+    await deliver(to, String(waiter), frames.completion(completes as number, result));
+  }
+  return [frames.completion(it.completes, VOID())];
+}
+
+/** A signal, or the result of an awakeable, which is for its invocation alone. */
+async function sends(to: Statements, it: Of<'send'>): Promise<Uint8Array[]> {
+  const target = textOf(it.target);
+  if (target === undefined || !isThere(target)) return []; // it names nobody
+  if (it.isAwakeable) await deliver(to, target, it.notification);
+  else await send(to, target, it.notification);
   return [];
 }
 
-async function changes(to: Statements, own: Own, it: Message): Promise<Uint8Array[]> {
+function textOf(data: Uint8Array): string | undefined {
+  try {
+    return UTF8.decode(data);
+  } catch {
+    return undefined;
+  }
+}
+
+async function changes(to: Statements, own: Own, it: Of<'change'>): Promise<Uint8Array[]> {
   const place = { service: own.service, key: own.key };
-  if (it.type === 'setStateCommand') await to.change('set', { ...place, name: it.text(0), value: it.part(1) ?? new Uint8Array() });
-  else if (it.type === 'clearStateCommand') await to.change('clear', { ...place, name: it.text(0) });
-  else await to.change('clear-all', place);
+  if (it.name === undefined) await to.change('clear-all', place);
+  else if (it.value === undefined) {
+    if (isThere(it.name)) await to.change('clear', { ...place, name: it.name });
+  } else await to.change('set', { ...place, name: it.name, value: it.value });
   return [];
 }
-
-const PERFORMED: Readonly<Record<number, Performs>> = {
-  [Kind.lazyState]: readsState,
-  [Kind.lazyKeys]: readsState,
-  [Kind.set]: changes,
-  [Kind.clear]: changes,
-  [Kind.clearAll]: changes,
-  [Kind.sleep]: sleeps,
-  [Kind.call]: calls,
-  [Kind.send]: calls,
-  [Kind.completeAwakeable]: completes,
-  [Kind.signal]: signals,
-  [Kind.getPromise]: promises,
-  [Kind.lookAtPromise]: promises,
-  [Kind.completePromise]: promises,
-  [Kind.attach]: (to, own, it) => attaches(to, own, it.text(0), it.id),
-  [Kind.getOutput]: (to, _, it) => looks(to, it.text(0), it.id),
-};

@@ -2,12 +2,9 @@
 
 import { frames } from 'palqytun';
 
-/** The types of messages that a runtime acts on (docs/WIRE.md). */
+/** The types of messages at which a runtime looks (docs/WIRE.md). */
 export const Kind = {
-  suspension: 2, error: 3, end: 4, proposal: 5, awaitingOn: 7,
-  input: 10, eagerState: 11, lazyState: 12, eagerKeys: 13, lazyKeys: 14, set: 15, clear: 16, clearAll: 17,
-  sleep: 18, call: 19, send: 20, completeAwakeable: 21, signal: 22, getPromise: 23, lookAtPromise: 24, completePromise: 25,
-  run: 26, attach: 27, getOutput: 28, output: 29, notification: 30,
+  suspension: 2, error: 3, end: 4, proposal: 5, awaitingOn: 7, input: 10, eagerState: 11, eagerKeys: 13, run: 26, output: 29, notification: 30,
 } as const; // prettier-ignore
 
 const HEAD = 10;
@@ -36,8 +33,24 @@ const SETS = Buffer.from('palqytun.attribute ');
 const NAMED = 18; // the place of a run's name in its frame
 
 /** Whether a command is a run that sets an attribute. */
-export function isAttribute({ kind, bytes }: Frame): boolean {
+function isAttribute({ kind, bytes }: Frame): boolean {
   return kind === Kind.run && bytes.subarray(NAMED, NAMED + SETS.length).equals(SETS);
+}
+
+/** What the invocation is found by is set, or taken away if there is no value. It is a run that is never executed, whose name has both as JSON. */
+export interface Attribute {
+  readonly kind: 'attribute';
+  readonly name: string;
+  readonly value: string | undefined;
+}
+
+/** The attribute that a stored row sets, if it sets one. */
+export function attributeIn({ frame }: { readonly frame: Uint8Array }): Attribute | undefined {
+  const [it] = split(frame);
+  if (it === undefined || !isAttribute(it)) return undefined;
+  const run = new frames.Message(frame).text(0);
+  const [name, value] = JSON.parse(run.slice(SETS.length)) as [string, string?];
+  return { kind: 'attribute', name, value };
 }
 
 export function isStep(frame: Frame): boolean {
@@ -148,6 +161,11 @@ export function patchesIn(entries: readonly Uint8Array[]): Map<number, string> {
   return found;
 }
 
+/** Whether something that is stored may have this name: an invocation by its id, or a value of the state. No text of PostgreSQL has a NUL. */
+export function isThere(name: string): boolean {
+  return !name.includes('\0');
+}
+
 /** Whose signal completes an awakeable, and its number; undefined if this names none. No other text names the same. */
 export function awakeableOf(id: string): { invocation: string; signal: number } | undefined {
   if (!id.startsWith('sign_1')) return undefined;
@@ -156,6 +174,6 @@ export function awakeableOf(id: string): { invocation: string; signal: number } 
   if (data.length < 4 || data.toString('base64url') !== text) return undefined;
   const named = data.subarray(0, -4);
   const invocation = named.toString('utf8');
-  if (Buffer.compare(Buffer.from(invocation, 'utf8'), named) !== 0) return undefined; // it is no text
+  if (Buffer.compare(Buffer.from(invocation, 'utf8'), named) !== 0 || !isThere(invocation)) return undefined; // it is no text, or no invocation's id
   return { invocation, signal: data.subarray(-4).readUInt32BE(0) };
 }

@@ -3,8 +3,8 @@
 import { Code, frames } from 'palqytun';
 import type { Journal, Row } from 'palqytun';
 import { deliver, leaves } from './delivery';
-import { perform } from './effects';
-import type { Own } from './effects';
+import { askedBy, perform } from './effects';
+import type { Asked, Own } from './effects';
 import { storable } from './errors';
 import { Kind, failureIn, isCancel, isStep, signalName, split, valueIn } from './frames';
 import type { Frame } from './frames';
@@ -109,10 +109,9 @@ async function append(to: Statements, claim: Pick<Claim, 'id'>, rows: readonly R
   if (rows.length > 0) await to.change('appends', { id: claim.id, now: to.now, ...listed(rows, first) });
 }
 
-async function fence(to: Statements, claim: Claim): Promise<number> {
-  const before = claim.journal.entries;
+/** Keeps the invocation's row, if it is still this claim's with so many entries. */
+async function fence(to: Statements, claim: Claim, before: number): Promise<void> {
   if ((await to.rows('fence', { id: claim.id, epoch: claim.epoch, before })).length === 0) throw new Fenced(claim, before);
-  return before;
 }
 
 /** Stores what an attempt wrote. If it has ended, its invocation's status follows. What is `isSteps` alone is one statement, which is a transaction. */
@@ -120,16 +119,18 @@ export async function store(to: Statements, claim: Claim, output: Uint8Array): P
   claim.journal.undo(); // an earlier try of this transaction failed
   const written = split(output);
   if (claim.continues !== undefined && written.some(isEnd)) await to.rows('take', { id: claim.id }); // before the fence, as those who send keep it before
-  const before = written.every(isStep) ? claim.journal.entries : await fence(to, claim);
+  const before = claim.journal.entries;
   const stored = claim.journal.store(VM_VERSION, output);
+  const asked = askedBy(stored.rows);
+  if (asked.length > 0 || written.some(isEnd)) await fence(to, claim, before);
   const arrived: Uint8Array[] = [];
-  for (const it of written) arrived.push(...(await perform(to, claim, it)));
+  for (const it of asked) arrived.push(...(await perform(to, claim, it)));
   const rows = [...stored.rows, ...arrived.map((it) => claim.journal.arrive(it))];
   if (stored.rows.length > 0) Object.assign(claim.counters, CLEAN);
   if (!written.some(isEnd)) return goesOn(to, claim, rows, before, [...(stored.feed.length > 0 ? [stored.feed] : []), ...arrived]);
   await append(to, claim, rows, before);
   if (stored.rows.length > 0) await to.change('progress', { id: claim.id, epoch: claim.epoch });
-  return stops(to, claim, { before, written, rows });
+  return stops(to, claim, { before, written, asked, rows });
 }
 
 /** Whether an output has only steps, which ask nothing of the runtime but to be stored. */
@@ -151,6 +152,7 @@ async function goesOn(to: Statements, claim: Claim, rows: readonly Row[], before
 interface Growth {
   readonly before: number;
   readonly written: readonly Frame[];
+  readonly asked: readonly Asked[];
   readonly rows: readonly Row[];
 }
 
@@ -160,7 +162,8 @@ async function stops(to: Statements, claim: Claim, it: Growth): Promise<Outcome>
   const last = it.written.find(isEnd) as Frame;
   if (last.kind === Kind.suspension) return suspend(to, claim, it, last.bytes);
   if (last.kind === Kind.error) return fail(to, claim, it, last.bytes);
-  const result = it.written.find(({ kind }) => kind === Kind.output)?.bytes ?? (await storedOutput(to, claim));
+  const output = it.asked.find((one) => one.kind === 'output');
+  const result = output?.kind === 'output' ? output.result : await storedOutput(to, claim);
   return claim.continues === undefined ? end(to, claim, it.before, result) : goesOnAs(to, claim, it.before, result, claim.continues);
 }
 
@@ -301,7 +304,8 @@ export async function endUnbegun(to: Statements, claim: Claim, result: Uint8Arra
 /** Moves what came for a running invocation to its journal. */
 export async function pull(to: Statements, claim: Claim): Promise<Outcome> {
   claim.journal.undo();
-  const before = await fence(to, claim);
+  const before = claim.journal.entries;
+  await fence(to, claim, before);
   const found = outcome(RUNNING);
   const inbox = await to.rows('inbox', { id: claim.id });
   const came = arrivals(claim, inbox, !claim.isShielded);

@@ -275,6 +275,28 @@ class Waits(OnRows):
         self.store(one, f'CompleteAwakeable awakeable_id="sign_1{named}" result=value("4")')
         self.assertEqual(self.waiting(target.invocation), ['Notification id=signal(17) result=value("4")'])
 
+    def test_a_name_with_nul_names_nothing(self):
+        """No text of PostgreSQL has a NUL, and a handler may be given any. So an invocation with this id isn't there, and a value with this name neither."""
+        one, nul = self.begun("O/alone", "k"), "a\\x00"
+        named = base64.urlsafe_b64encode(b"a\0" + (17).to_bytes(4, "big")).decode().rstrip("=")
+        before = {it: rows for it, rows in self.all_rows().items() if it not in ("invocations", "journal")}
+        asked = [
+            (f'CompleteAwakeable awakeable_id="sign_1{named}" result=value("4")', []),
+            (signal(nul, "go", "4"), []),
+            (f'SendSignal target_invocation_id="{nul}" signal=index(1) result=void', []),
+            (f'ClearState key="{nul}"', []),
+            (f'GetLazyState key="{nul}" result_completion_id=1', ["Notification id=completion(1) result=void"]),
+            (f'AttachInvocation target=InvocationId("{nul}") result_completion_id=2', ['failure(code=404 message="there is no such invocation"']),
+            (f'GetInvocationOutput target=InvocationId("{nul}") result_completion_id=3', ['failure(code=404 message="there is no such invocation"']),
+        ]
+        for line, wanted in asked:
+            with self.subTest(line):
+                fed = [frames.line_of(it) for it in self.store(one, line).feed]
+                self.assertEqual([it in got for it, got in zip(wanted, fed, strict=True)], [True] * len(wanted))
+        self.assertEqual({it: rows for it, rows in self.all_rows().items() if it in before}, before)
+        with self.assertRaisesRegex(TerminalError, "is no awakeable"):
+            effects.awakeable_of(f"sign_1{named}")
+
     def test_what_came_before_an_attempt_is_in_its_journal(self):
         """A claim puts the inbox to the journal, as an attempt does that is lost then."""
         id, _ = self.made("S/works")

@@ -44,11 +44,17 @@ def awakeable_of(id: str) -> tuple[str, int]:
     text = id.removeprefix(_AWAKEABLE)
     try:
         data = base64.urlsafe_b64decode(text + "=" * (-len(text) % 4))
-        if id != _AWAKEABLE + base64.urlsafe_b64encode(data).decode().rstrip("="):
+        invocation, number = data[:-4].decode(), struct.unpack(">I", data[-4:])[0]
+        if id != _AWAKEABLE + base64.urlsafe_b64encode(data).decode().rstrip("=") or not _is_there(invocation):
             raise ValueError
-        return data[:-4].decode(), struct.unpack(">I", data[-4:])[0]
+        return invocation, number
     except (ValueError, struct.error):
         raise TerminalError(f"{id[:200]} is no awakeable", 400) from None
+
+
+def _is_there(name: str) -> bool:
+    """Whether something that is stored may have this name: an invocation by its id, or a value of the state. No text of PostgreSQL has a NUL."""
+    return "\0" not in name
 
 
 def child_of(invocation: str, completion: int) -> str:
@@ -116,7 +122,8 @@ class Performer:
         if it.name is None:
             self.db.each(_NO_STATE, place)
         elif it.value is None:
-            self.db.each(_NO_NAME, (*place, it.name))
+            if _is_there(it.name):
+                self.db.each(_NO_NAME, (*place, it.name))
         else:
             self.db.each(_NAME if self.clears else _NAMES, (*place, it.name, it.value))
 
@@ -126,7 +133,8 @@ class Performer:
             names = [name for name, in await self.db.rows("SELECT name FROM state WHERE service=? AND key=?", place)]
             self.growth.complete(it.completes, journal.keys(sorted(names, key=str.encode)))
         else:
-            found = await self.db.rows("SELECT value FROM state WHERE service=? AND key=? AND name=?", (*place, it.name))
+            sql = "SELECT value FROM state WHERE service=? AND key=? AND name=?"
+            found = await self.db.rows(sql, (*place, it.name)) if _is_there(it.name) else []
             self.growth.complete(it.completes, journal.value(bytes(found[0][0])) if found else journal.void())
 
     async def _send(self, it: Send) -> None:
@@ -134,6 +142,8 @@ class Performer:
             target = it.target.decode()
         except UnicodeDecodeError:
             return  # an awakeable's id that names nobody
+        if not _is_there(target):
+            return
         if it.is_awakeable:
             inbox.put(self.db, self.out, target, it.notification)
         else:
@@ -168,6 +178,7 @@ class Performer:
 
     async def _attach(self, it: Attach) -> None:
         target = it.invocation or await self._named(it)
+        target = target if target is not None and _is_there(target) else None
         if not it.peeks:
             await invocations.attach(self.db, self.growth, target, it.completes)
             return
