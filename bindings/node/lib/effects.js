@@ -75,17 +75,18 @@ function target(it) {
 
 const attach = (peeks) => (it) => ({ kind: 'attach', completes: it.said.completes, target: target(it), peeks });
 
+/** By the types of the messages (docs/WIRE.md). */
 const COMMANDS = {
-  [MessageType.getLazyStateCommand]: read(true),
-  [MessageType.getLazyStateKeysCommand]: read(false),
-  [MessageType.setStateCommand]: (it) => change(it.text(0), it.part(1)),
-  [MessageType.clearStateCommand]: (it) => change(it.text(0), undefined),
-  [MessageType.clearAllStateCommand]: () => change(undefined, undefined),
-  [MessageType.getPromiseCommand]: promise(false, false),
-  [MessageType.peekPromiseCommand]: promise(true, false),
-  [MessageType.completePromiseCommand]: promise(false, true),
-  [MessageType.attachInvocationCommand]: attach(false),
-  [MessageType.getInvocationOutputCommand]: attach(true),
+  12: read(true),
+  14: read(false),
+  15: (it) => change(it.text(0), it.part(1)),
+  16: (it) => change(it.text(0), undefined),
+  17: () => change(undefined, undefined),
+  23: promise(false, false),
+  24: promise(true, false),
+  25: promise(false, true),
+  27: attach(false),
+  28: attach(true),
 };
 
 const KINDS = {

@@ -68,7 +68,7 @@ const ASKED = [
 ];
 
 for (const [asked, wanted] of ASKED) {
-  test(`what is asked for by ${typeof asked === 'string' ? asked : 'PeekPromise'}`, () => {
+  test(`what is asked for by ${typeof asked === 'string' ? asked : 'a look at a promise'}`, () => {
     const { rows } = new Journal().store(7, typeof asked === 'string' ? frameOf(asked) : asked);
     assert.deepStrictEqual(rows.map((it) => it.effect), [wanted]);
   });
