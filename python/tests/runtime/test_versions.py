@@ -186,6 +186,39 @@ class Versions(support.OnADatabase):
         [it] = [it for it in checked(self.url, made(OTHER, waits=False), ended=True) if it.difference is not None]
         self.assertEqual((it.detail.command, it.detail.field, it.detail.recorded, it.detail.asked), (3, "parameter", "b'1'", "b'2'"))
 
+    def test_an_await_where_a_command_is_recorded(self):
+        """The command that is recorded there is named, and not the one before, which the code makes too: by a replay, and by the attempt that is paused."""
+
+        def waiting(awaits):
+            shop = Service("Shop")
+
+            @shop.handler()
+            async def waits(ctx: Context, it: str) -> None:
+                slept = ctx.sleep(3600)
+                if awaits:
+                    await slept
+                await ctx.run("mail", lambda: "mailed")
+                await ctx.signal("go")
+
+            return App(shop)
+
+        async def begun():
+            async with Runtime(waiting(False), self.url, version=OLD) as runtime:
+                id = await runtime.send("Shop/waits", "it")
+                await runtime.until_rows([(1,)], "SELECT COUNT(*) FROM journal WHERE completes IS NOT NULL")
+                return id
+
+        async def goes_on(id):
+            async with Runtime(waiting(True), self.url, version=OLD) as runtime:
+                await runtime.engine.notify(id, journal.named_signal("go", journal.void()))
+                return (await runtime.until(id, "paused"))[1]
+
+        id = asyncio.run(begun())
+        said = "command 2 is recorded as Run 'mail', and the code awaits what hasn't come"
+        [it] = checked(self.url, waiting(True))
+        self.assertEqual((it.outcome, it.command, it.difference), (ReplayOutcome.DIFFERS, 2, said))
+        self.assertEqual(asyncio.run(goes_on(id)), f"570 JOURNAL_MISMATCH: UncompletedDoProgressDuringReplay: {said}")
+
     def test_a_replay_has_an_outcome(self):
         async def go():
             async with Runtime(made(OLD), self.url, version=OLD) as runtime:

@@ -194,13 +194,12 @@ class Attempt:
                 task.cancel()
 
     async def _part(self) -> None:
-        """If the core has refused a call as another one than is recorded, says which ones they are. Only this attempt knows its call: another
-        attempt of a handler that goes by the clock or by chance may make others."""
-        call = None if self._context is None else self._context.refused_call
-        if call is not None:
+        """If the core has refused a call as another one than is recorded, or an await at which one is recorded, says which ones they are. Only this attempt
+        knows its call: another attempt of a handler that goes by the clock or by chance may make others."""
+        context = self._context
+        if context is not None and (context.refused_call is not None or isinstance(self.claim.fault, core.JournalMismatch)):
             found = await self.worker.alone(lambda db: replay.stored_of(db, self.claim.invocation))
-            detail = None if found is None else replay.parted(found, self._vm.last_command_index(), call)
-            self.claim.parted = None if detail is None else detail.text
+            self.claim.parted = None if found is None else replay.parted(found, self._vm.last_command_index(), context)
 
     async def _begun(self, input: bytes) -> None:
         """Feeds the stored journal."""

@@ -130,13 +130,20 @@ def replayed(app: App, it: Stored) -> Replayed:
         return _found(vm.last_command_index(), wrong, context, is_left)
 
 
-def _found(command: int, error: str | None, context: Context, is_left: bool) -> Replayed:
-    """How far a handler went that was called. `is_left`: recorded commands are left, and the VM has refused no call."""
+def _found(last: int, error: str | None, context: Context, is_left: bool) -> Replayed:
+    """How far a handler went that was called. `last` is the index of the last command. `is_left`: recorded commands are left, and the VM has refused
+    no call."""
     if error is not None:
-        return Replayed(command, error, context)
+        return Replayed(_parts_at(last, context) if error.startswith(_MISMATCH) else last, error, context)
     if is_left:
-        return Replayed(command, f"the code stops after command {command}, and recorded commands are left", context, ReplayOutcome.STOPS_EARLY)
-    return Replayed(command, None, context, ReplayOutcome.GOES_ON)
+        return Replayed(last, f"the code stops after command {last}, and recorded commands are left", context, ReplayOutcome.STOPS_EARLY)
+    return Replayed(last, None, context, ReplayOutcome.GOES_ON)
+
+
+def _parts_at(last: int, context: Context) -> int:
+    """The index of the command from which a handler parts that the core has refused: that of its call, which counts as the last one; or of the one after
+    the last, since an await makes none."""
+    return last if context.refused_call is not None else last + 1
 
 
 def _replayed(app: App, vm: core.VM, context: Context, handler: Handler[Any, Any], given: bytes) -> str | None:
@@ -203,15 +210,21 @@ _MISMATCH = f"{Code.JOURNAL_MISMATCH.value} "
 def _in_words(it: Stored, found: Replayed) -> tuple[str | None, Difference | None]:
     if found.error is None or found.command < 0 or found.context is None or not found.error.startswith(_MISMATCH):
         return found.error, None
-    call = found.context.refused_call
-    detail = parted(it, found.command, call) if call else None
-    said = _awaited(it, found.command) if call is None else detail and detail.text
+    said, detail = _parted(it, found.command, found.context)
     return said or found.error, detail
 
 
-def parted(it: Stored, command: int, call: parting.Asked) -> Difference | None:
-    """How a call that the core has refused parts from the recorded command with this index; none if it makes no command."""
-    return parting.parted(it.entries, command, call, it.row.version, _begin(it.row))
+def parted(it: Stored, last: int, context: Context) -> str | None:
+    """How a handler that the core has refused parts from its journal, if `last` is the index of its last command."""
+    return _parted(it, _parts_at(last, context), context)[0]
+
+
+def _parted(it: Stored, command: int, context: Context) -> tuple[str | None, Difference | None]:
+    """The same in words and, if it is by a call that makes a command, as a value."""
+    if context.refused_call is None:
+        return _awaited(it, command), None
+    detail = parting.parted(it.entries, command, context.refused_call, it.row.version, _begin(it.row))
+    return detail and detail.text, detail
 
 
 def _awaited(it: Stored, command: int) -> str | None:
