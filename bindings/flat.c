@@ -505,3 +505,19 @@ uint32_t palqytun_flat_difference(const uint8_t *recorded, size_t recorded_len, 
         *returned = made;
     return made.status;
 }
+
+uint32_t palqytun_flat_mismatch(const uint8_t *fed, size_t fed_len, uint32_t index, uint32_t type, palqytun_compared *returned)
+{
+    palqytun_compared made = palqytun_mismatch(fed, fed_len, index, type);
+    if (returned != NULL)
+        *returned = made;
+    return made.status;
+}
+
+uint32_t palqytun_flat_mismatch_part(const uint8_t *fed, size_t fed_len, uint32_t index, uint32_t type, const uint8_t *asked, size_t asked_len, bool ignore_payloads, size_t at, uint8_t *out, size_t out_len, palqytun_told *returned)
+{
+    palqytun_told made = palqytun_mismatch_part(fed, fed_len, index, type, asked, asked_len, ignore_payloads, at, out, out_len);
+    if (returned != NULL)
+        *returned = made;
+    return made.status;
+}

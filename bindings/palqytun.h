@@ -861,6 +861,31 @@ palqytun_told palqytun_input_frame(
 palqytun_told palqytun_difference(const uint8_t *recorded, size_t recorded_len, const uint8_t *asked, size_t asked_len, bool ignore_payloads,
     uint8_t *out, size_t out_len);
 
+/* What is recorded, and what a call asks for: whether it is a command, and which, a PALQYTUN_COMMAND_. All but the status is 0 if it isn't
+   PALQYTUN_DONE. is_lazy: the recorded command is a read of the state whose key Start hadn't. */
+typedef struct {
+    uint32_t status;
+    bool is_recorded;
+    uint32_t recorded;
+    bool is_asked;
+    uint32_t asked;
+    bool is_lazy;
+} palqytun_compared;
+
+/* Compares the call that a VM has refused with the journal. fed is what the VM was fed before its handler began. index and type are those of the command
+   to which the error relates, second and third of its reply. An error of an await relates to none: index is then one more than that of the last
+   command, and type 0. PALQYTUN_NO_PART: there is no command on either side. PALQYTUN_BAD_NUMBER: the type is no command's. */
+palqytun_compared palqytun_mismatch(const uint8_t *fed, size_t fed_len, uint32_t index, uint32_t type);
+
+/* Writes in what the two differ to the front of out, and returns how long it is. Part 0 is the first field that differs, by its name in docs/FRAMES.md:
+   "type" if the commands are of different types, or there is one alone. Part 1 is its recorded value, and part 2 that of the call, each as such a line
+   has it, up to 120 characters, and of a type its name. PALQYTUN_NO_PART: a field is at its default, there is no such command, or no field is known to
+   differ. asked is what the call writes where nothing is recorded: it is made again, with the same arguments, on a VM of the same version, over a Start
+   and an Input alone; the state in Start is partial if is_lazy, and else empty. Without it only types are compared. If ignore_payloads, payloads aren't
+   compared, as in the replay. PALQYTUN_NO_ROOM: len is the length that it needs. PALQYTUN_NO_MEMORY: nothing was written. */
+palqytun_told palqytun_mismatch_part(const uint8_t *fed, size_t fed_len, uint32_t index, uint32_t type, const uint8_t *asked, size_t asked_len,
+    bool ignore_payloads, size_t at, uint8_t *out, size_t out_len);
+
 /* ---- What numbers say
 
    The texts are the library's own, and end with a 0. NULL: no status, or no code of the VM's own errors, has this number. */

@@ -340,6 +340,15 @@ typedef struct {
     size_t rows;
 } palqytun_frame_row;
 
+typedef struct {
+    uint32_t status;
+    bool is_recorded;
+    uint32_t recorded;
+    bool is_asked;
+    uint32_t asked;
+    bool is_lazy;
+} palqytun_compared;
+
 /* Loads the library once: the file of this path; if it is NULL, the one that the environment variable PALQYTUN_LIBRARY names, or the one that the
    system finds by its name. If it can't, why stands in said. No function below is called before. Any thread may call it. */
 bool pq_load(const char *path, char *said, size_t said_len);
@@ -416,6 +425,8 @@ uint32_t pq_frame_part(const uint8_t *frame, size_t frame_len, size_t at, uint8_
 uint32_t pq_value_frame(const uint8_t *value, size_t value_len, uint8_t *out, size_t out_len, palqytun_told *returned);
 uint32_t pq_input_frame(const uint8_t *frame, size_t frame_len, const uint8_t *value, size_t value_len, uint8_t *out, size_t out_len, palqytun_told *returned);
 uint32_t pq_difference(const uint8_t *recorded, size_t recorded_len, const uint8_t *asked, size_t asked_len, bool ignore_payloads, uint8_t *out, size_t out_len, palqytun_told *returned);
+uint32_t pq_mismatch(const uint8_t *fed, size_t fed_len, uint32_t index, uint32_t type, palqytun_compared *returned);
+uint32_t pq_mismatch_part(const uint8_t *fed, size_t fed_len, uint32_t index, uint32_t type, const uint8_t *asked, size_t asked_len, bool ignore_payloads, size_t at, uint8_t *out, size_t out_len, palqytun_told *returned);
 const char *pq_status_name(uint32_t status);
 const char *pq_status_text(uint32_t status);
 const char *pq_code_name(uint32_t code);

@@ -83,6 +83,8 @@ static struct {
     uint32_t (*value_frame)(const uint8_t *, size_t, uint8_t *, size_t, palqytun_told *);
     uint32_t (*input_frame)(const uint8_t *, size_t, const uint8_t *, size_t, uint8_t *, size_t, palqytun_told *);
     uint32_t (*difference)(const uint8_t *, size_t, const uint8_t *, size_t, bool, uint8_t *, size_t, palqytun_told *);
+    uint32_t (*mismatch)(const uint8_t *, size_t, uint32_t, uint32_t, palqytun_compared *);
+    uint32_t (*mismatch_part)(const uint8_t *, size_t, uint32_t, uint32_t, const uint8_t *, size_t, bool, size_t, uint8_t *, size_t, palqytun_told *);
     const char * (*status_name)(uint32_t);
     const char * (*status_text)(uint32_t);
     const char * (*code_name)(uint32_t);
@@ -239,6 +241,10 @@ static bool loads(void *object, const char **lacks)
         is_whole = false, *lacks = "palqytun_flat_input_frame";
     if ((*(void **)&it.difference = dlsym(object, "palqytun_flat_difference")) == NULL)
         is_whole = false, *lacks = "palqytun_flat_difference";
+    if ((*(void **)&it.mismatch = dlsym(object, "palqytun_flat_mismatch")) == NULL)
+        is_whole = false, *lacks = "palqytun_flat_mismatch";
+    if ((*(void **)&it.mismatch_part = dlsym(object, "palqytun_flat_mismatch_part")) == NULL)
+        is_whole = false, *lacks = "palqytun_flat_mismatch_part";
     if ((*(void **)&it.status_name = dlsym(object, "palqytun_status_name")) == NULL)
         is_whole = false, *lacks = "palqytun_status_name";
     if ((*(void **)&it.status_text = dlsym(object, "palqytun_status_text")) == NULL)
@@ -661,6 +667,16 @@ uint32_t pq_input_frame(const uint8_t *frame, size_t frame_len, const uint8_t *v
 uint32_t pq_difference(const uint8_t *recorded, size_t recorded_len, const uint8_t *asked, size_t asked_len, bool ignore_payloads, uint8_t *out, size_t out_len, palqytun_told *returned)
 {
     return it.difference(recorded, recorded_len, asked, asked_len, ignore_payloads, out, out_len, returned);
+}
+
+uint32_t pq_mismatch(const uint8_t *fed, size_t fed_len, uint32_t index, uint32_t type, palqytun_compared *returned)
+{
+    return it.mismatch(fed, fed_len, index, type, returned);
+}
+
+uint32_t pq_mismatch_part(const uint8_t *fed, size_t fed_len, uint32_t index, uint32_t type, const uint8_t *asked, size_t asked_len, bool ignore_payloads, size_t at, uint8_t *out, size_t out_len, palqytun_told *returned)
+{
+    return it.mismatch_part(fed, fed_len, index, type, asked, asked_len, ignore_payloads, at, out, out_len, returned);
 }
 
 const char *pq_status_name(uint32_t status)

@@ -27,7 +27,7 @@ NUMBERS = {"uint16_t": "int", "uint32_t": "int", "uint64_t": "int", "size_t": "i
 SAID = {"bool": "bool", **NUMBERS}
 PLAIN = {**SAID, "palqytun_bytes": "Octets", "palqytun_optional": "Octets | None", "const palqytun_pair *": "Pairs"}
 MADE = {"palqytun_bytes": "Bytes.of(it.{})", "palqytun_optional": "Optional.of(it.{})", "const palqytun_pair *": "*pairs_of(it.{})"}
-RETURNED = ("told", "replied", "retry", "row", "stored", "effect", "judged", "frame_row")
+RETURNED = ("told", "replied", "retry", "row", "stored", "effect", "judged", "frame_row", "compared")
 
 HEAD = '''"""The numbers of the library for C, and what its calls take and return. `tools/header --write` writes this file, from `palqytun.h`."""
 

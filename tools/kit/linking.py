@@ -25,7 +25,7 @@ CC = ["cc", "-std=c11", "-O1", "-fPIC", "-fvisibility=default"]
 SHARED = ["-shared", "-Wl,--no-undefined", "-Wl,-z,noexecstack", "-Wl,--gc-sections"]
 HEADERS = ("palqytun.h", "palqytun_flat.h")
 """What is declared to callers, in `bindings`."""
-BETWEEN = ("handles.c", "lending.c", "calls.c", "flat.c", "names.c")
+BETWEEN = ("handles.c", "lending.c", "calls.c", "flat.c", "names.c", "differing.c")
 """The C code between the header's functions and the proved calls, and what numbers say, in `bindings`."""
 
 

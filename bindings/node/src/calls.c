@@ -854,6 +854,37 @@ CALL(difference)
     return give_bytes(&lent, &out);
 }
 
+CALL(mismatch)
+{
+    BEGIN(3);
+    palqytun_bytes fed = read_bytes(&lent, ARG(0));
+    uint32_t index = read_u32(&lent, ARG(1));
+    uint32_t type = read_u32(&lent, ARG(2));
+    palqytun_compared returned = {0};
+    if (is_read(&lent))
+        pq_mismatch(fed.at, fed.len, index, type, &returned);
+    static const char *const names[] = {"status", "is_recorded", "recorded", "is_asked", "asked", "is_lazy"};
+    const uint64_t values[] = {returned.status, returned.is_recorded, returned.recorded, returned.is_asked, returned.asked, returned.is_lazy};
+    return give_row(&lent, names, values, 6);
+}
+
+CALL(mismatch_part)
+{
+    BEGIN(6);
+    palqytun_bytes fed = read_bytes(&lent, ARG(0));
+    uint32_t index = read_u32(&lent, ARG(1));
+    uint32_t type = read_u32(&lent, ARG(2));
+    palqytun_bytes asked = read_bytes(&lent, ARG(3));
+    bool ignore_payloads = read_bool(&lent, ARG(4));
+    size_t at = read_size(&lent, ARG(5));
+    struct out out = {0};
+    do
+        if (is_read(&lent))
+            pq_mismatch_part(fed.at, fed.len, index, type, asked.at, asked.len, ignore_payloads, at, out_at(&out), out_len(&out), &out.told);
+    while (is_short(&out));
+    return give_bytes(&lent, &out);
+}
+
 const struct made CALLS[] = {
     MAKES(feed)
     MAKES(take_output)
@@ -919,5 +950,7 @@ const struct made CALLS[] = {
     MAKES(value_frame)
     MAKES(input_frame)
     MAKES(difference)
+    MAKES(mismatch)
+    MAKES(mismatch_part)
     {0},
 };

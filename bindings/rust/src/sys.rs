@@ -815,6 +815,17 @@ pub struct FrameRow {
     pub rows: usize,
 }
 
+#[derive(Clone, Copy, Debug)]
+#[repr(C)]
+pub struct Compared {
+    pub status: u32,
+    pub is_recorded: bool,
+    pub recorded: u32,
+    pub is_asked: bool,
+    pub asked: u32,
+    pub is_lazy: bool,
+}
+
 macro_rules! functions {
     ($($name:ident = $symbol:literal: ($($taken:ty),*) -> $result:ty;)*) => {
         /// The functions of a library, by their names without `palqytun_`.
@@ -917,6 +928,8 @@ functions! {
     value_frame = "palqytun_value_frame\0": (*const u8, usize, *mut u8, usize) -> Told;
     input_frame = "palqytun_input_frame\0": (*const u8, usize, *const u8, usize, *mut u8, usize) -> Told;
     difference = "palqytun_difference\0": (*const u8, usize, *const u8, usize, bool, *mut u8, usize) -> Told;
+    mismatch = "palqytun_mismatch\0": (*const u8, usize, u32, u32) -> Compared;
+    mismatch_part = "palqytun_mismatch_part\0": (*const u8, usize, u32, u32, *const u8, usize, bool, usize, *mut u8, usize) -> Told;
     status_name = "palqytun_status_name\0": (u32) -> *const c_char;
     status_text = "palqytun_status_text\0": (u32) -> *const c_char;
     code_name = "palqytun_code_name\0": (u32) -> *const c_char;

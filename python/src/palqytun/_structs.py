@@ -368,6 +368,25 @@ class FrameRow(ctypes.Structure):
     rows: int
 
 
+class Compared(ctypes.Structure):
+    """palqytun_compared."""
+
+    _fields_ = [
+        ("status", ctypes.c_uint32),
+        ("is_recorded", ctypes.c_bool),
+        ("recorded", ctypes.c_uint32),
+        ("is_asked", ctypes.c_bool),
+        ("asked", ctypes.c_uint32),
+        ("is_lazy", ctypes.c_bool),
+    ]
+    status: int
+    is_recorded: bool
+    recorded: int
+    is_asked: bool
+    asked: int
+    is_lazy: bool
+
+
 FUNCTIONS: dict[str, tuple[list[Any], Any]] = {
     "open": ([ctypes.POINTER(ctypes.c_void_p)], ctypes.c_uint32),
     "open_over": ([ctypes.POINTER(ctypes.c_void_p), ctypes.c_uint32], ctypes.c_uint32),
@@ -441,6 +460,8 @@ FUNCTIONS: dict[str, tuple[list[Any], Any]] = {
     "value_frame": ([ctypes.c_char_p, ctypes.c_size_t, ctypes.c_char_p, ctypes.c_size_t], Told),
     "input_frame": ([ctypes.c_char_p, ctypes.c_size_t, ctypes.c_char_p, ctypes.c_size_t, ctypes.c_char_p, ctypes.c_size_t], Told),
     "difference": ([ctypes.c_char_p, ctypes.c_size_t, ctypes.c_char_p, ctypes.c_size_t, ctypes.c_bool, ctypes.c_char_p, ctypes.c_size_t], Told),
+    "mismatch": ([ctypes.c_char_p, ctypes.c_size_t, ctypes.c_uint32, ctypes.c_uint32], Compared),
+    "mismatch_part": ([ctypes.c_char_p, ctypes.c_size_t, ctypes.c_uint32, ctypes.c_uint32, ctypes.c_char_p, ctypes.c_size_t, ctypes.c_bool, ctypes.c_size_t, ctypes.c_char_p, ctypes.c_size_t], Told),
     "status_name": ([ctypes.c_uint32], ctypes.c_char_p),
     "status_text": ([ctypes.c_uint32], ctypes.c_char_p),
     "code_name": ([ctypes.c_uint32], ctypes.c_char_p),

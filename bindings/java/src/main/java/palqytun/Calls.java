@@ -67,6 +67,8 @@ final class Calls {
     static native Object value_frame(Object... given);
     static native Object input_frame(Object... given);
     static native Object difference(Object... given);
+    static native Object mismatch(Object... given);
+    static native Object mismatch_part(Object... given);
 
     private Calls() {}
 }
