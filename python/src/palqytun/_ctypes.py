@@ -20,7 +20,7 @@ KEPT = 65536
 COPYING = ("feed", "take_output", "part", "state_set", "call", "call_with_deadline", "send", "propose", "write_output")
 COMPLETING = ("complete_awakeable", "complete_signal", "complete_promise")
 WRITING = ("answer", "take_output", "part", "describe", "journal_frame", "journal_effect_part", "journal_answer")
-WRITING_FRAMES = ("frame_line", "line_frame", "notification", "frame_part", "value_frame", "input_frame", "difference")
+WRITING_FRAMES = ("frame_line", "line_frame", "notification", "frame_part", "value_frame", "input_frame", "difference", "mismatch_part")
 
 Buffer = ctypes.Array[ctypes.c_char]
 Call = Callable[..., Any]

@@ -76,6 +76,11 @@ def type_of(message: int) -> CommandType | None:
     return _MESSAGES.get(message)
 
 
+def message_of(type: CommandType) -> int:
+    """The type of the message of such a command, of two that it may have the first."""
+    return next(message for message, it in _MESSAGES.items() if it is type)
+
+
 def _named(type: CommandType, name: str, names: Names) -> str:
     own = names.get(type, type.value)
     return f'{own} "{name}"' if name else own

@@ -47,9 +47,3 @@ class Difference:
 
     def __str__(self) -> str:
         return self.in_words()
-
-
-def between_types(index: int, recorded: CommandType | None, asked: CommandType | None) -> Difference:
-    """A difference of two types, or of one and none."""
-    one, other = (None if it is None else it.value for it in (recorded, asked))
-    return Difference(index, "type", one, other, recorded, asked)
