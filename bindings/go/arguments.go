@@ -27,12 +27,26 @@ type argument struct {
 	name, text         string
 	isNumber           bool
 	value, least, most uint32
+	isUnstable         bool
 }
 
 func named(name, value string) argument { return argument{name: name, text: value} }
 
 func bounded(name string, value, least, most uint32) argument {
 	return argument{name: name, isNumber: true, value: value, least: least, most: most}
+}
+
+// payload says whether replay doesn't compare the payload.
+func payload(unstable bool) argument { return argument{isUnstable: unstable} }
+
+// isUnstable says whether replay doesn't compare the payload among these arguments.
+func isUnstable(of []argument) bool {
+	for _, it := range of {
+		if it.isUnstable {
+			return true
+		}
+	}
+	return false
 }
 
 // caseOf is a number that names one of so many cases, from 0 on.

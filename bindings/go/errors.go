@@ -32,6 +32,8 @@ type Error struct {
 	Stacktrace string
 	// Related is the command that it relates to, or nil.
 	Related *Related
+	// Difference says in what the call isn't as the journal has it, if the error is about that and the journal was fed to this VM; else nil.
+	Difference *Difference
 	// The kind of the reply, by which a suspension isn't an error with the same code that was handed in.
 	kind uint32
 	// It was handed in, so its code says nothing of the VM.
@@ -57,8 +59,11 @@ var namesOfCodes = map[uint16]string{
 	CodeSuspended:            "Suspended",
 }
 
-// Error is the code, its name if the error is the VM's own, the message and the command that it relates to.
-func (e *Error) Error() string {
+// Error is the code, its name if the error is the VM's own, the message, and in what the call isn't as recorded or the command that it relates to.
+func (e *Error) Error() string { return e.InWords(nil) }
+
+// InWords is the same by an SDK's own names of commands. One that isn't there has its own.
+func (e *Error) InWords(names map[CommandType]string) string {
 	text := fmt.Sprint(e.Code)
 	if name := namesOfCodes[e.Code]; name != "" && !e.handedIn && !strings.EqualFold(name, strings.ReplaceAll(e.Message, "_", "")) {
 		text += " " + name + ":"
@@ -69,6 +74,9 @@ func (e *Error) Error() string {
 	}
 	if e.has(CodeUnsupportedMediaType) {
 		text += fmt.Sprintf(" (the content type must be application/vnd.restate.invocation.vN with N from %d to %d)", MinimumVersion, MaximumVersion)
+	}
+	if it := e.Difference; it != nil {
+		return text + ": " + it.InWords(names)
 	}
 	if it := e.Related; it != nil {
 		text += fmt.Sprintf(" (command %d: %v %q)", it.Index, it.Message, it.Name)

@@ -19,6 +19,10 @@ type VM struct {
 	version int
 	// It has failed by an error that was handed in, which each later call returns.
 	failedByHandedIn bool
+	// An error has failed it, which may say in what a call isn't as recorded.
+	isRefused  bool
+	difference *Difference
+	replayed   replayed
 }
 
 // New makes a VM for the version that the content type names. It fails by an [*Error] with [CodeUnsupportedMediaType] if that names none that is
@@ -34,7 +38,7 @@ func newVM(contentType *string, options Options) (*VM, error) {
 	if err := load(); err != nil {
 		return nil, err
 	}
-	vm := &VM{}
+	vm := &VM{replayed: replayedBy(options)}
 	if err := failure(uint32(C.pq_open(&vm.handle))); err != nil {
 		return nil, err
 	}
@@ -89,7 +93,11 @@ func (vm *VM) GetResponseHead() (head ResponseHead, err error) {
 func (vm *VM) NotifyInput(data []byte) error {
 	vm.guard.Lock()
 	defer vm.guard.Unlock()
-	return failure(uint32(C.pq_feed(vm.handle, at(data), size(data))))
+	if err := failure(uint32(C.pq_feed(vm.handle, at(data), size(data)))); err != nil {
+		return err
+	}
+	vm.replayed.feed(data)
+	return nil
 }
 
 // NotifyInputClosed says that no more bytes come.
@@ -110,9 +118,13 @@ func (vm *VM) NotifyError(of HandlerError, related *RelatedCommand) error {
 func (vm *VM) TakeOutput() ([]byte, error) {
 	vm.guard.Lock()
 	defer vm.guard.Unlock()
-	return written(func(out *C.uint8_t, most C.size_t, told *C.palqytun_told) {
+	output, err := written(func(out *C.uint8_t, most C.size_t, told *C.palqytun_told) {
 		C.pq_take_output(vm.handle, out, most, told)
 	})
+	if len(output) > 0 {
+		vm.replayed.ends()
+	}
+	return output, err
 }
 
 // String is the VM in a line for a log.
@@ -171,6 +183,9 @@ func (vm *VM) DoAwait(future Future) (awaited Awaited, err error) {
 	}
 	err = vm.told(call, func() error {
 		awaited = awaitedOf(&vm.replied)
+		if awaited.Kind != AnyCompleted && awaited.Kind != CancelSignalReceived {
+			vm.replayed.ends()
+		}
 		return nil
 	})
 	return awaited, err
@@ -210,6 +225,7 @@ func (vm *VM) TakeEphemeralNotification(id uint32) (Value, error) {
 // SysInput is what the handler was called with; its first call.
 func (vm *VM) SysInput() (input Input, err error) {
 	err = vm.told(func(it *C.palqytun_replied) { C.pq_input(vm.handle, it) }, func() (err error) {
+		vm.replayed.isBegun = true
 		input.RandomSeed = uint64(vm.replied.number)
 		texts := [6]*string{}
 		for i := range texts {
@@ -264,7 +280,7 @@ func (vm *VM) EphemeralStateGet(key string) (uint32, error) {
 func (vm *VM) SysStateSet(key string, value []byte, name string, unstable bool) error {
 	return vm.told(func(it *C.palqytun_replied) {
 		C.pq_state_set(vm.handle, textAt(key), textSize(key), at(value), size(value), textAt(name), textSize(name), C.bool(unstable), it)
-	}, nil, named("key", key), named("name", name))
+	}, nil, named("key", key), named("name", name), payload(unstable))
 }
 
 // SysStateClear takes a state key's value away.
@@ -290,7 +306,7 @@ func (vm *VM) SysCall(target Target, input []byte, name string, unstable bool) (
 	err = vm.told(call, func() error {
 		handles = CallHandles{Handle(vm.replied.first), Handle(vm.replied.second)}
 		return nil
-	}, lent.with(named("name", name))...)
+	}, lent.with(named("name", name), payload(unstable))...)
 	return handles, err
 }
 
@@ -305,7 +321,7 @@ func (vm *VM) SysCallWithDeadline(target Target, input []byte, deadlineMillis ui
 	err = vm.told(call, func() error {
 		handles = DeadlineHandles{Handle(vm.replied.first), Handle(vm.replied.second), Handle(vm.replied.third)}
 		return nil
-	}, lent.with(named("name", name))...)
+	}, lent.with(named("name", name), payload(unstable))...)
 	return handles, err
 }
 
@@ -316,7 +332,7 @@ func (vm *VM) SysSend(target Target, input []byte, atMillis uint64, name string,
 	to := lent.target(target)
 	return vm.one(func(it *C.palqytun_replied) {
 		C.pq_send(vm.handle, to, at(input), size(input), C.uint64_t(atMillis), textAt(name), textSize(name), C.bool(unstable), it)
-	}, lent.with(named("name", name))...)
+	}, lent.with(named("name", name), payload(unstable))...)
 }
 
 // SysCancelInvocation sends the cancel signal to another invocation.
@@ -365,7 +381,7 @@ func (vm *VM) SysCompleteAwakeable(id string, value Given, unstable bool) error 
 	given := lent.given(value)
 	return vm.told(func(it *C.palqytun_replied) {
 		C.pq_complete_awakeable(vm.handle, textAt(id), textSize(id), given, C.bool(unstable), it)
-	}, nil, lent.with(named("id", id))...)
+	}, nil, lent.with(named("id", id), payload(unstable))...)
 }
 
 // CreateSignalHandle is a handle for the signal of this name.
@@ -400,7 +416,7 @@ func (vm *VM) SysCompletePromise(key string, value Given, unstable bool) (Handle
 	given := lent.given(value)
 	return vm.one(func(it *C.palqytun_replied) {
 		C.pq_complete_promise(vm.handle, textAt(key), textSize(key), given, C.bool(unstable), it)
-	}, lent.with(named("key", key))...)
+	}, lent.with(named("key", key), payload(unstable))...)
 }
 
 // SysRun calls a run, an effect whose result is recorded; an await says when to execute it.
@@ -436,7 +452,7 @@ func (vm *VM) SysWriteOutput(value Given, unstable bool) error {
 	var lent room
 	defer lent.free()
 	given := lent.given(value)
-	return vm.told(func(it *C.palqytun_replied) { C.pq_write_output(vm.handle, given, C.bool(unstable), it) }, nil, lent.of...)
+	return vm.told(func(it *C.palqytun_replied) { C.pq_write_output(vm.handle, given, C.bool(unstable), it) }, nil, lent.with(payload(unstable))...)
 }
 
 // SysEnd ends the handler; its last call.
@@ -469,8 +485,8 @@ func (vm *VM) handIn(given HandlerError, call func(it *C.palqytun_replied), of .
 	if err != nil {
 		return err
 	}
-	vm.failedByHandedIn, vm.replied = isBy, replied
-	return vm.outcome(of)
+	vm.failedByHandedIn, vm.isRefused, vm.replied = isBy, vm.isRefused || isBy, replied
+	return vm.outcome(call, of)
 }
 
 // hasFailedBy says, after a call that handed in this error, whether the VM has failed by it. It may also have failed by one of its own, which
@@ -499,21 +515,21 @@ func (vm *VM) isFailure() bool {
 
 func (vm *VM) made(call func(it *C.palqytun_replied), of ...argument) error {
 	call(&vm.replied)
-	return vm.outcome(of)
+	return vm.outcome(call, of)
 }
 
-// outcome is the error of the last reply, nil if it is done.
-func (vm *VM) outcome(of []argument) error {
+// outcome is the error of the last reply, which is that of this call; nil if it is done.
+func (vm *VM) outcome(call func(it *C.palqytun_replied), of []argument) error {
 	switch Status(vm.replied.status) {
 	case StatusDone:
 		return nil
 	case StatusRefused:
-		return vm.refusal()
+		return vm.refusal(call, of)
 	}
 	return refused(Status(vm.replied.status), of)
 }
 
-func (vm *VM) refusal() error {
+func (vm *VM) refusal(call func(it *C.palqytun_replied), of []argument) error {
 	it := vm.replied
 	texts := [3]string{}
 	for i := range texts {
@@ -527,6 +543,13 @@ func (vm *VM) refusal() error {
 	found.handedIn = vm.failedByHandedIn && it.kind == C.PALQYTUN_ERROR
 	if it.first == 1 {
 		found.Related = &Related{Index: uint32(it.second), Message: MessageType(it.third), Name: texts[2]}
+	}
+	if it.kind == C.PALQYTUN_ERROR && !vm.isRefused {
+		vm.isRefused = true
+		vm.difference = vm.differs(found, call, of)
+	}
+	if it.kind == C.PALQYTUN_ERROR {
+		found.Difference = vm.difference
 	}
 	return found
 }

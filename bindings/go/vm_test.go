@@ -300,7 +300,7 @@ func TestACallThatHandsInFindsNoMemory(t *testing.T) {
 	defer vm.Close()
 	vm.failedByHandedIn = true
 	vm.replied.kind, vm.replied.number = 23, CodeInternal // PALQYTUN_OUT_OF_MEMORY
-	wants(t, vm.refusal(), ErrNoMemory)
+	wants(t, vm.refusal(nil, nil), ErrNoMemory)
 }
 
 var handedIn = []HandlerError{

@@ -36,6 +36,8 @@ def play(line: str) -> tuple[str, list[str]]:
             break
         else:
             found = performed(vm, step)
+        if "error" in found and "difference" not in step.get("error", {}):
+            del found["error"]["difference"]
         if not fits(step, found):
             wanted = {it: step[it] for it in WANTS if it in step}
             wrong.append(f"{row['row']} ({row['under']}), step {at}, {step['call']}: {found}, not {wanted}")
@@ -76,7 +78,7 @@ def new(step: Step) -> tuple[VM | None, Step]:
 
 
 def refused(error: VMError) -> Step:
-    return {"error": {"code": error.code, "message": error.text}}
+    return {"error": {"code": error.code, "message": error.text, "difference": None if error.difference is None else str(error.difference)}}
 
 
 def performed(vm: VM, step: Step) -> Step:

@@ -16,6 +16,7 @@ from .wants import want_of
 MOST = 2**64 - 1  # in a typed call
 EXACT = 2**53 - 1  # above it a number stands as a string of digits, since not every reader of JSON has it whole
 WANTS = ("returns", "error", "frames")
+MISMATCHES = ("570 ", "571 ")  # what --details says of their errors is in what a call isn't as recorded
 Step = dict[str, Json]
 
 
@@ -68,16 +69,32 @@ def steps(play: Answered, types: dict[str, int]) -> Iterator[Step]:
     """The steps of a play. None are a blank line, a comment, a line without a meaning, by which nothing is done, and a line where there is no VM.
 
     Raises NotTyped if a line is a call that only a line can make."""
-    for asked, (wanted, place) in zip(play.input.decode().splitlines(), play.lines, strict=True):
+    about = dict(play.details)
+    for line, (asked, (wanted, place)) in enumerate(zip(play.input.decode().splitlines(), play.lines, strict=True), 1):
         if not asked.strip() or asked.lstrip().startswith("#") or wanted in ("bad", "none"):
             continue
         try:
             call = call_of(asked)
             if largest(call) > MOST:
                 raise NotTyped("a number of more than 64 bits")
-            yield call | want_of(str(call["call"]), wanted, types)
+            yield call | with_difference(want_of(str(call["call"]), wanted, types), about.get(line, ""))
         except Unreadable as error:
             raise Unreadable(f"{place}: `{asked}` => `{wanted}`: {error}") from error
+
+
+def with_difference(want: Step, about: str) -> Step:
+    """What a call returns, and in what it isn't as recorded, if its error is about that. Both forms of a read of the state are one command.
+
+    >>> about = "570 JOURNAL_MISMATCH: CommandTypeMismatchError: command 1 is recorded as GetLazyState, and the call makes Run"
+    >>> with_difference({"error": {"code": 570, "message": "CommandTypeMismatchError"}}, about)["error"]["difference"]
+    'command 1 is recorded as GetState, and the call makes Run'
+    """
+    if "error" not in want or not about.startswith(MISMATCHES):
+        return want
+    text = about.partition(f"{want['error']['message']}: ")[2].replace("GetLazy", "Get").replace("GetEager", "Get")
+    if text.startswith("the await "):
+        text = f"{text.rpartition('; ')[2]}, and the code awaits what hasn't come"
+    return {"error": want["error"] | {"difference": text}}
 
 
 def largest(it: Json) -> int:

@@ -92,8 +92,7 @@ func begin(before *palqytun.VM, step fields) (*palqytun.VM, any, error) {
 func fits(step fields, found any, err error) bool {
 	var refused *palqytun.Error
 	if errors.As(err, &refused) {
-		found = fields{"code": refused.Code, "message": refused.Message}
-		return step.has("error") && same(step["error"], found)
+		return step.has("error") && same(step["error"], refusal(refused, step.object("error").has("difference")))
 	}
 	if err != nil {
 		return false
@@ -104,6 +103,15 @@ func fits(step fields, found any, err error) bool {
 		return isWhole && same(types, frames)
 	}
 	return step.has("returns") && same(step["returns"], found)
+}
+
+// refusal is an error as the suite has it: its difference stands there if it is asked for.
+func refusal(it *palqytun.Error, hasDifference bool) fields {
+	found := fields{"code": it.Code, "message": it.Message}
+	if hasDifference && it.Difference != nil {
+		found["difference"] = it.Difference.String()
+	}
+	return found
 }
 
 // same compares what JSON shows of two values.
