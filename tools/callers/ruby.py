@@ -12,7 +12,7 @@ from tools.programs.commands import ended
 from .common import SECONDS, Bindings, copied, example_of, loads, plays
 
 LINE = re.compile(r"^(\d+) runs, \d+ assertions, (\d+) failures, (\d+) errors, (\d+) skips$", re.M)
-TESTS = ("test/test_misuse.rb", "test/test_memory.rb")
+TESTS = ("test/test_misuse.rb", "test/test_differing.rb", "test/test_memory.rb")
 
 
 def ruby(it: Bindings) -> None:

@@ -177,10 +177,12 @@ def frames(output)
   types
 end
 
-def performed
+# What a call returned, or its error: with its difference, if the step asks for that.
+def performed(step)
   { "returns" => yield }
 rescue Palqytun::VMError => error
-  { "error" => { "code" => error.code, "message" => error.text } }
+  asks = step.fetch("error", {}).key?("difference")
+  { "error" => { "code" => error.code, "message" => error.text, **(asks ? { "difference" => error.difference&.to_s } : {}) } }
 end
 
 def fits?(step, found)
@@ -195,10 +197,10 @@ def play(row)
     if step["call"] == "new"
       vm&.close
       vm = nil
-      found = performed { (vm = Palqytun::VM.new(step["content_type"], **G.options(step.fetch("options", {})))).version }
+      found = performed(step) { (vm = Palqytun::VM.new(step["content_type"], **G.options(step.fetch("options", {})))).version }
     else
       next if vm.nil?
-      found = performed { CALLS.fetch(step["call"]).call(vm, step) }
+      found = performed(step) { CALLS.fetch(step["call"]).call(vm, step) }
     end
     "#{row["row"]} (#{row["under"]}), step #{at}, #{step["call"]}: #{found}" unless fits?(step, found)
   end

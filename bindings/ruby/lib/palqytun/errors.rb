@@ -30,6 +30,8 @@ module Palqytun
   # The VM refused a call. It has failed, or is suspended or closed, and raises the same from each later call. An error that was handed in, by
   # `notify_error` or `propose_retryable_failure`, is of this class alone, with any code; the classes below are the VM's own errors.
   class VMError < Error
+    # In what the call isn't as the journal has it, a Difference, if the error is about that and the journal was fed to this VM.
+    attr_reader :difference
     attr_reader :code, :text, :stacktrace, :related
 
     CODES = %i[CODE_BAD_REQUEST CODE_UNSUPPORTED_MEDIA_TYPE CODE_INTERNAL CODE_JOURNAL_MISMATCH CODE_PROTOCOL_VIOLATION CODE_UNSUPPORTED_FEATURE
@@ -37,15 +39,20 @@ module Palqytun
     CONTENT_TYPES = "the content type must be application/vnd.restate.invocation.vN with N from #{ABI::MINIMUM_VERSION} to #{ABI::MAXIMUM_VERSION}".freeze
     private_constant :CODES, :CONTENT_TYPES
 
-    # An error of the VM's own says the name of its code too, and what is allowed.
-    def initialize(code, text, stacktrace, related, own: false)
-      name = own ? CODES[code] : nil
+    def initialize(code, text, stacktrace, related, difference = nil, own: false)
+      @code, @text, @stacktrace, @related, @difference, @own = code, text, stacktrace, related, difference, own
+      super(in_words)
+    end
+
+    # The message by an SDK's own names of commands, as `{ call: "ctx.service_call" }`. An error of the VM's own says the name of its code too, what is
+    # allowed, and in what the call isn't as recorded.
+    def in_words(names = {})
+      name = @own ? CODES[code] : nil
       named = name.nil? || name == text ? code : "#{code} #{name}:"
-      said = own && code == ABI::CODE_INTERNAL && text.empty? ? ABI::STATUSES[ABI::NO_MEMORY].last : text
-      allowed = " (#{CONTENT_TYPES})" if own && code == ABI::CODE_UNSUPPORTED_MEDIA_TYPE
-      more = related && " (command #{related.index}: #{related.type} #{related.name.inspect})"
-      super("#{named} #{said}#{allowed}#{more}")
-      @code, @text, @stacktrace, @related = code, text, stacktrace, related
+      said = @own && code == ABI::CODE_INTERNAL && text.empty? ? ABI::STATUSES[ABI::NO_MEMORY].last : text
+      allowed = " (#{CONTENT_TYPES})" if @own && code == ABI::CODE_UNSUPPORTED_MEDIA_TYPE
+      more = difference ? ": #{difference.in_words(names)}" : related && " (command #{related.index}: #{related.type} #{related.name.inspect})"
+      "#{named} #{said}#{allowed}#{more}"
     end
 
     # The code of an error that was handed in may be any, and says nothing of the VM; no such one is of a suspension's kind.

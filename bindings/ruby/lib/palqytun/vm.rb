@@ -44,7 +44,10 @@ module Palqytun
       @ext = L.ext
       @handle = @ext.pq_open
       raise StatusError, @handle if @handle.is_a?(Integer)
+      @refused = false # an error has failed it, which may say in what a call isn't as recorded
+      @difference = nil
       @version = one(:pq_make, asked, given)
+      @replayed = Replayed.new(@version, **options)
     end
 
     # Frees its memory. It may be called again; each other call is then a StatusError.
@@ -69,7 +72,11 @@ module Palqytun
     # The next bytes of the attempt, cut anywhere. What they spell may fail the VM, which the next call raises.
     def notify_input(data)
       A.bytes("data", data)
-      @guard.synchronize { L.done(data.bytesize < LARGE ? @ext.pq_feed(@handle, data) : @ext.pq_feed_large(@handle, data)) }
+      @guard.synchronize do
+        L.done(data.bytesize < LARGE ? @ext.pq_feed(@handle, data) : @ext.pq_feed_large(@handle, data))
+        @replayed.feed(data)
+      end
+      nil
     end
 
     # No more bytes come.
@@ -84,12 +91,12 @@ module Palqytun
 
     # Takes all bytes that wait to be sent: whole frames.
     def take_output
-      @guard.synchronize { L.written(@ext.pq_take_output(@handle)) }
+      @guard.synchronize { taken_output(@ext.pq_take_output(@handle)) }
     end
 
     # The same for an output of as many bytes at most, copied without the lock of Ruby. One that is longer is a StatusError, and stays.
     def take_large_output(most)
-      @guard.synchronize { L.written(@ext.pq_take_output_large(@handle, A.u32("most", most))) }
+      @guard.synchronize { taken_output(@ext.pq_take_output_large(@handle, A.u32("most", most))) }
     end
 
     # Whether the handler may begin: all known entries were fed.
@@ -108,6 +115,7 @@ module Palqytun
     def do_await(future)
       name, given = future.is_a?(Future) ? [:pq_await_tree, future.nodes] : [:pq_await, A.u32("future", future)]
       call(name, given) do |_, kind, first, second|
+        @replayed.ends unless [ABI::AWAKE, ABI::CANCELLED].include?(kind)
         case kind
         when ABI::WAITING then Waiting.new(first == 1, second == 1)
         when ABI::EXECUTE_RUN then ExecuteRun.new(first)
@@ -132,6 +140,7 @@ module Palqytun
     # What the handler was called with; its first call.
     def sys_input
       call(:pq_input) do |it|
+        @replayed.begins
         texts = { invocation_id: 1, key: 2, scope: 3, limit_key: 4, idempotency_key: 5 }.transform_values { |at| text(at) }
         Input.new(input: part(0), headers: pairs(6, it[6]), random_seed: it[5], **texts)
       end
@@ -245,9 +254,17 @@ module Palqytun
     def call(name, *given)
       @guard.synchronize do
         replied = @ext.public_send(name, @handle, *given)
-        refuse(replied) unless replied.first == ABI::DONE
+        refuse(replied, name, given) unless replied.first == ABI::DONE
         yield replied
       end
+    end
+
+    # Makes a call of another VM on this one, which is a new one, for what it writes.
+    def made_again(name, given) = @ext.public_send(name, @handle, *given)
+
+    # The output of a call that took it. Once there is some, nothing is replayed any more.
+    def taken_output(bytes)
+      L.written(bytes).tap { |it| @replayed.ends unless it.empty? }
     end
 
     # Makes a call that hands in this error. If the VM fails by it, each later call is refused by it; a VM that had failed keeps its first error.
@@ -256,7 +273,8 @@ module Palqytun
         had_failed = failure?(ready)
         replied = @ext.public_send(name, @handle, *given)
         @failed_by_handed_in = failed_by?(error, replied) unless had_failed
-        refuse(replied) unless replied.first == ABI::DONE
+        @refused ||= @failed_by_handed_in
+        refuse(replied, name, given) unless replied.first == ABI::DONE
       end
     end
 
@@ -274,11 +292,21 @@ module Palqytun
 
     def one(name, *given) = call(name, *given) { |it| it[2] }
 
-    def refuse(replied)
+    def refuse(replied, name, given)
       status, kind, related, index, type, code = replied
       raise StatusError, status unless status == ABI::REFUSED
       known = related == 1 ? Related.new(index, ABI::MESSAGE_TYPE_CASES.key(type), text(2).to_s) : nil
-      raise VMError.of(kind, @failed_by_handed_in, code, text(0).to_s, text(1).to_s, known)
+      said, trace, failed = text(0).to_s, text(1).to_s, failure?(replied)
+      if failed && !@refused
+        @refused = true
+        @difference = @replayed&.difference(said, known, name, given) { last_index }
+      end
+      raise VMError.of(kind, @failed_by_handed_in, code, said, trace, known, (@difference if failed))
+    end
+
+    def last_index
+      it = @ext.pq_last_command_index(@handle)
+      it[1] == ABI::INDEX ? it[5] : -1
     end
 
     def taken(replied)
