@@ -11,7 +11,7 @@ from tools.programs.commands import ended
 from .common import SECONDS, Bindings, copied, example_of, loads, plays
 
 COUNT = re.compile(r"^\W (pass|fail|cancelled|skipped|todo) (\d+)$", re.M)
-TESTS = ("test/effects.test.js", "test/misuse.test.js", "test/memory.test.js")
+TESTS = ("test/effects.test.js", "test/misuse.test.js", "test/differing.test.js", "test/memory.test.js")
 
 
 def node(it: Bindings) -> None:

@@ -126,8 +126,9 @@ function performed(vm, step) {
   try {
     return { returns: CALLS[step.call](vm, step) };
   } catch (error) {
-    if (error instanceof VMError) return { error: { code: error.code, message: error.text } };
-    throw error;
+    if (!(error instanceof VMError)) throw error;
+    const difference = step.error?.difference === undefined ? {} : { difference: error.difference?.toString() };
+    return { error: { code: error.code, message: error.text, ...difference } };
   }
 }
 
@@ -146,7 +147,7 @@ function play(row) {
     if (step.call === 'new') {
       vm?.close();
       vm = undefined;
-      found = performed(null, { call: 'new', make: () => (vm = new VM(step.content_type ?? null, given.options(step.options))).version });
+      found = performed(null, { call: 'new', error: step.error, make: () => (vm = new VM(step.content_type ?? null, given.options(step.options))).version });
     } else if (vm === undefined) {
       break;
     } else {

@@ -50,13 +50,18 @@ function pairs(it, session, first, rows) {
   return Array.from({ length: rows }, (_, row) => [text(it, session, first + 2 * row), text(it, session, first + 2 * row + 1)]);
 }
 
-/** The reply to a call: `[status, kind, first, second, third, low, high, rows]`. An error is raised, which may be one that was handed in. */
-function made(it, session, status, isHandedIn = false) {
+/**
+ * The reply to a call: `[status, kind, first, second, third, low, high, rows]`. An error is raised, which may be one that was handed in. Of one by which a VM
+ * has failed `differs` says in what the call isn't as recorded.
+ */
+function made(it, session, status, isHandedIn = false, differs = () => undefined) {
   if (status === NUMBERS.DONE) return it.reply;
   if (status !== NUMBERS.REFUSED) throw new StatusError(status);
   const [, kind, isRelated, index, type, code] = it.reply;
   const [message, stacktrace, name] = [0, 1, 2].map((at) => text(it, session, at) ?? '');
-  throw refusal(kind, code, message, stacktrace, isRelated ? { index, type, name } : undefined, isHandedIn);
+  const related = isRelated ? { index, type, name } : undefined;
+  const difference = kind === NUMBERS.ERROR ? differs(message, related) : undefined;
+  throw refusal(kind, code, message, stacktrace, related, difference, isHandedIn);
 }
 
 module.exports = { addon, done, made, pairs, part, text, written };

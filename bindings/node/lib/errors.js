@@ -27,23 +27,34 @@ const Code = Object.freeze(Object.fromEntries(Object.entries(NUMBERS).flatMap(([
 const NAMES = Object.fromEntries(Object.entries(Code).map(([name, it]) => [it, name]));
 const CONTENT_TYPES = `the content type must be application/vnd.restate.invocation.vN with N from ${NUMBERS.MINIMUM_VERSION} to ${NUMBERS.MAXIMUM_VERSION}`;
 
-/** What an error says: its code, with its name if the error is the VM's own, its text, what is allowed, and the command that it relates to. */
-function described(code, text, related, isOwn) {
+/** What an error says: its code, with its name if the error is the VM's own, its text, what is allowed, and in what the call isn't as recorded or the
+ * command that it relates to. */
+function described({ code, text, related, difference, isOwn }, names) {
   const named = isOwn && code in NAMES && NAMES[code] !== text ? `${code} ${NAMES[code]}:` : `${code}`;
   const said = isOwn && code === NUMBERS.CODE_INTERNAL && text === '' ? STATUSES[NUMBERS.NO_MEMORY][1] : text;
   const allowed = isOwn && code === NUMBERS.CODE_UNSUPPORTED_MEDIA_TYPE ? ` (${CONTENT_TYPES})` : '';
+  if (difference) return `${named} ${said}${allowed}: ${difference.inWords(names)}`;
   return `${named} ${said}${allowed}${related ? ` (command ${related.index}: ${related.type} "${related.name}")` : ''}`;
 }
 
 /** The VM refused a call. */
 class VMError extends Error {
-  constructor(code, text, stacktrace, related, isOwn) {
-    super(described(code, text, related, isOwn));
+  #isOwn;
+
+  constructor(code, text, stacktrace, related, difference, isOwn) {
+    super(described({ code, text, related, difference, isOwn }));
     this.name = new.target.name;
     this.code = code;
     this.text = text;
     this.stacktrace = stacktrace;
     this.related = related;
+    this.difference = difference;
+    this.#isOwn = isOwn;
+  }
+
+  inWords(names) {
+    const { code, text, related, difference } = this;
+    return described({ code, text, related, difference, isOwn: this.#isOwn }, names);
   }
 }
 
@@ -69,10 +80,10 @@ function classOf(kind, code, isHandedIn) {
   return isHandedIn ? VMError : (CLASSES[code] ?? VMError);
 }
 
-function refusal(kind, code, text, stacktrace, related, isHandedIn) {
+function refusal(kind, code, text, stacktrace, related, difference, isHandedIn) {
   const known = related && { index: related.index, type: caseOf(MessageType, related.type), name: related.name };
   const made = classOf(kind, code, isHandedIn);
-  return new made(code, text, stacktrace, known, !isHandedIn);
+  return new made(code, text, stacktrace, known, difference, !isHandedIn);
 }
 
 module.exports = { Closed, Code, JournalMismatch, LoadError, StatusError, Suspended, VMError, caseOf, refusal };

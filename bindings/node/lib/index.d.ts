@@ -295,6 +295,29 @@ export const Code: {
   readonly SUSPENDED: 599;
 };
 
+/** What an SDK calls its commands, as `{ call: 'ctx.serviceCall' }`. One that isn't there has its own name. */
+export type Names = Partial<Record<CommandType, string>>;
+
+/** In what a call isn't as the recorded command of this index, the Input being 0. */
+export class Difference {
+  private constructor();
+  readonly index: number;
+  /** The first field that differs, by its name on the line of a frame (docs/FRAMES.md), and `type` if the two are of different types. */
+  readonly field: string;
+  /** Its value in the journal, as such a line has it, up to 120 characters; the type, if the types differ. Undefined: it is at its default, or there is no such
+   * command. */
+  readonly recorded: string | undefined;
+  /** The same by the call. */
+  readonly asked: string | undefined;
+  /** What is recorded; undefined if no command is. */
+  readonly recordedType: CommandType | undefined;
+  /** What the call makes; undefined if it makes none, which is an await. */
+  readonly askedType: CommandType | undefined;
+  /** The same as a text, by an SDK's own names of commands. */
+  inWords(names?: Names): string;
+  toString(): string;
+}
+
 /** The VM refused a call. It has failed, or is suspended or closed, and raises the same from each later call. An error that was handed in, by
  * `notifyError` or `proposeRetryableFailure`, is of this class alone, with any code; the classes below are the VM's own errors. */
 export class VMError extends Error {
@@ -303,6 +326,10 @@ export class VMError extends Error {
   readonly stacktrace: string;
   /** The command that it relates to. */
   readonly related: { index: number; type: MessageType; name: string } | undefined;
+  /** In what the call isn't as the journal has it, if the error is about that and the journal was fed to this VM. */
+  readonly difference: Difference | undefined;
+  /** The message by an SDK's own names of commands. */
+  inWords(names?: Names): string;
 }
 /** The invocation is suspended: what is awaited can't come in this attempt. */
 export class Suspended extends VMError {}

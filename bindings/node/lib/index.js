@@ -3,6 +3,7 @@
 const { NUMBERS, SUPPORTED_VERSIONS } = require('./abi');
 const { addon } = require('./addon');
 const lent = require('./arguments');
+const { Difference } = require('./differing');
 const { Closed, Code, JournalMismatch, LoadError, StatusError, Suspended, VMError } = require('./errors');
 const frames = require('./frames');
 const { Future, allCompleted, allSucceededOrFirstFailed, firstCompleted, firstSucceededOrAllFailed, unknown } = require('./future');
@@ -13,6 +14,7 @@ module.exports = {
   CANCEL_HANDLE: NUMBERS.CANCEL_HANDLE,
   Closed,
   Code,
+  Difference,
   Future,
   Journal,
   JournalMismatch,

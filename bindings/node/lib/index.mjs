@@ -4,6 +4,7 @@ export const {
   CANCEL_HANDLE,
   Closed,
   Code,
+  Difference,
   Future,
   Journal,
   JournalMismatch,

@@ -4,6 +4,7 @@
 const { NUMBERS, State } = require('./abi');
 const { addon, done, made, pairs, part, text, written } = require('./addon');
 const lent = require('./arguments');
+const { Replayed } = require('./differing');
 const { StatusError, caseOf } = require('./errors');
 const { Future } = require('./future');
 
@@ -21,6 +22,10 @@ class VM {
   #version;
   /** It has failed by an error that was handed in, which each later call raises. */
   #failedByHandedIn = false;
+  /** An error has failed it, which may say in what a call isn't as recorded. */
+  #isRefused = false;
+  #difference;
+  #replayed;
 
   constructor(contentType, options) {
     const asked = lent.optional('contentType', contentType);
@@ -35,6 +40,7 @@ class VM {
       this.close();
       throw error;
     }
+    this.#replayed = new Replayed(VM, this.#version, options);
   }
 
   get version() {
@@ -46,16 +52,36 @@ class VM {
     if (status !== NUMBERS.NO_SESSION) done(status);
   }
 
-  #made(status) {
-    return made(this.#addon, this.#session, status, this.#failedByHandedIn);
+  /** Makes a typed call, and gives its reply. */
+  #call(name, ...given) {
+    return this.#made(this.#addon[name](this.#session, ...given), name, given);
+  }
+
+  /** The reply of a call of this name with these arguments. */
+  #made(status, name, given) {
+    if (status === NUMBERS.DONE) return this.#addon.reply;
+    return made(this.#addon, this.#session, status, this.#failedByHandedIn, (text, related) => this.#differs(text, related, name, given));
+  }
+
+  /** In what the call isn't as recorded that has failed the VM: it is this one, if none had failed it, and the error has this text and related command. */
+  #differs(text, related, name, given) {
+    if (this.#isRefused) return this.#difference;
+    this.#isRefused = true;
+    const last = () => {
+      const isThere = this.#addon.last_command_index(this.#session) === NUMBERS.DONE && this.#addon.reply[1] === NUMBERS.INDEX;
+      return isThere ? this.#addon.reply[5] : -1;
+    };
+    this.#difference = this.#replayed.difference(text, related, last, given, (vm) => vm.#addon[name](vm.#session, ...given));
+    return this.#difference;
   }
 
   /** Makes a call that hands in this error. If the VM fails by it, each later call is refused by it; a VM that had failed keeps its first error. */
-  #handIn(error, call) {
+  #handIn(error, name, ...given) {
     const hadFailed = this.#hasFailed();
-    const status = call();
+    const status = this.#addon[name](this.#session, ...given);
     if (!hadFailed) this.#failedByHandedIn = this.#hasFailedBy(error, status);
-    this.#made(status);
+    this.#isRefused ||= this.#failedByHandedIn;
+    this.#made(status, name, given);
   }
 
   /**
@@ -72,10 +98,6 @@ class VM {
     return status === NUMBERS.REFUSED && this.#addon.reply[1] === NUMBERS.ERROR;
   }
 
-  #one(status) {
-    return this.#made(status)[2];
-  }
-
   #text(at) {
     return text(this.#addon, this.#session, at);
   }
@@ -83,25 +105,28 @@ class VM {
   // ---- The attempt
 
   getResponseHead() {
-    const [, , , , , statusCode, , rows] = this.#made(this.#addon.head(this.#session));
+    const [, , , , , statusCode, , rows] = this.#call('head');
     return { statusCode, headers: pairs(this.#addon, this.#session, 0, rows) };
   }
 
   notifyInput(data) {
     done(this.#addon.feed(this.#session, lent.bytes('data', data)));
+    this.#replayed.feed(data);
   }
 
   notifyInputClosed() {
-    this.#made(this.#addon.close_input(this.#session));
+    this.#call('close_input');
   }
 
   notifyError(error, related) {
     const [given, command] = [lent.error('error', error), lent.command(related)];
-    this.#handIn(given, () => this.#addon.report_error(this.#session, given, command));
+    this.#handIn(given, 'report_error', given, command);
   }
 
   takeOutput() {
-    return written(this.#addon.take_output(this.#session));
+    const output = written(this.#addon.take_output(this.#session));
+    if (output.length > 0) this.#replayed.ends();
+    return output;
   }
 
   /** The VM in a line for a log; or its status, once it was closed. */
@@ -119,25 +144,23 @@ class VM {
   }
 
   isReadyToExecute() {
-    return this.#one(this.#addon.is_ready(this.#session)) === 1;
+    return this.#call('is_ready')[2] === 1;
   }
 
   state() {
-    return caseOf(State, this.#one(this.#addon.state(this.#session)));
+    return caseOf(State, this.#call('state')[2]);
   }
 
   lastCommandIndex() {
-    const [, kind, , , , low, high] = this.#made(this.#addon.last_command_index(this.#session));
+    const [, kind, , , , low, high] = this.#call('last_command_index');
     return kind === NUMBERS.INDEX ? low + high * 2 ** 32 : -1;
   }
 
   // ---- Awaits
 
   doAwait(future) {
-    const status = future instanceof Future
-      ? this.#addon.await_tree(this.#session, future.nodes)
-      : this.#addon.await(this.#session, lent.u32('future', future));
-    const [, kind, first, second] = this.#made(status);
+    const [, kind, first, second] = future instanceof Future ? this.#call('await_tree', future.nodes) : this.#call('await', lent.u32('future', future));
+    if (kind !== NUMBERS.AWAKE && kind !== NUMBERS.CANCELLED) this.#replayed.ends();
     switch (kind) {
       case NUMBERS.WAITING:
         return { kind: 'waitingExternalProgress', waitingInput: first === 1, waitingRunProposal: second === 1 };
@@ -153,19 +176,18 @@ class VM {
   }
 
   isCompleted(handle) {
-    return this.#one(this.#addon.is_completed(this.#session, lent.u32('handle', handle))) === 1;
+    return this.#call('is_completed', lent.u32('handle', handle))[2] === 1;
   }
 
   takeNotification(handle) {
-    return this.#taken(this.#addon.take(this.#session, lent.u32('handle', handle)));
+    return this.#taken(this.#call('take', lent.u32('handle', handle)));
   }
 
   takeEphemeralNotification(id) {
-    return this.#taken(this.#addon.take_ephemeral(this.#session, lent.u32('id', id)));
+    return this.#taken(this.#call('take_ephemeral', lent.u32('id', id)));
   }
 
-  #taken(status) {
-    const [, kind, , , , code, , rows] = this.#made(status);
+  #taken([, kind, , , , code, , rows]) {
     switch (kind) {
       case NUMBERS.VOID:
         return { kind: 'void' };
@@ -185,7 +207,8 @@ class VM {
   // ---- The handler's calls
 
   sysInput() {
-    const [, , , , , low, high, rows] = this.#made(this.#addon.input(this.#session));
+    const [, , , , , low, high, rows] = this.#call('input');
+    this.#replayed.begins();
     return {
       input: part(this.#addon, this.#session, 0),
       invocationId: this.#text(1),
@@ -200,112 +223,112 @@ class VM {
 
   sysSleep(wakeUpMillis, how) {
     const [name] = named(how);
-    return this.#one(this.#addon.sleep(this.#session, name, lent.u64('wakeUpMillis', wakeUpMillis)));
+    return this.#call('sleep', name, lent.u64('wakeUpMillis', wakeUpMillis))[2];
   }
 
   sysStateGet(key, how) {
-    return this.#one(this.#addon.state_get(this.#session, lent.text('key', key), named(how)[0]));
+    return this.#call('state_get', lent.text('key', key), named(how)[0])[2];
   }
 
   sysStateGetKeys(how) {
-    return this.#one(this.#addon.state_get_keys(this.#session, named(how)[0]));
+    return this.#call('state_get_keys', named(how)[0])[2];
   }
 
   ephemeralStateGet(key) {
-    return this.#one(this.#addon.ephemeral_state_get(this.#session, lent.text('key', key)));
+    return this.#call('ephemeral_state_get', lent.text('key', key))[2];
   }
 
   sysStateSet(key, value, how) {
-    this.#made(this.#addon.state_set(this.#session, lent.text('key', key), lent.bytes('value', value), ...named(how)));
+    this.#call('state_set', lent.text('key', key), lent.bytes('value', value), ...named(how));
   }
 
   sysStateClear(key, how) {
-    this.#made(this.#addon.state_clear(this.#session, lent.text('key', key), named(how)[0]));
+    this.#call('state_clear', lent.text('key', key), named(how)[0]);
   }
 
   sysStateClearAll(how) {
-    this.#made(this.#addon.state_clear_all(this.#session, named(how)[0]));
+    this.#call('state_clear_all', named(how)[0]);
   }
 
   sysCall(target, input, how) {
-    const [, , invocationId, result] = this.#made(this.#addon.call(this.#session, lent.target(target), lent.bytes('input', input), ...named(how)));
+    const [, , invocationId, result] = this.#call('call', lent.target(target), lent.bytes('input', input), ...named(how));
     return { invocationId, result };
   }
 
   sysCallWithDeadline(target, input, deadlineMillis, how) {
     const given = [lent.target(target), lent.bytes('input', input), lent.u64('deadlineMillis', deadlineMillis)];
-    const [, , invocationId, result, deadline] = this.#made(this.#addon.call_with_deadline(this.#session, ...given, ...named(how)));
+    const [, , invocationId, result, deadline] = this.#call('call_with_deadline', ...given, ...named(how));
     return { invocationId, result, deadline };
   }
 
   sysSend(target, input, how = NAMED) {
     lent.object('how', how);
     const at = how.atMillis === undefined ? 0n : lent.u64('atMillis', how.atMillis);
-    return this.#one(this.#addon.send(this.#session, lent.target(target), lent.bytes('input', input), at, ...named(how)));
+    return this.#call('send', lent.target(target), lent.bytes('input', input), at, ...named(how))[2];
   }
 
   sysCancelInvocation(invocationId) {
-    this.#made(this.#addon.cancel_invocation(this.#session, lent.text('invocationId', invocationId)));
+    this.#call('cancel_invocation', lent.text('invocationId', invocationId));
   }
 
   sysAttachInvocation(target) {
-    return this.#one(this.#addon.attach(this.#session, lent.invocation(target)));
+    return this.#call('attach', lent.invocation(target))[2];
   }
 
   sysGetInvocationOutput(target) {
-    return this.#one(this.#addon.get_output(this.#session, lent.invocation(target)));
+    return this.#call('get_output', lent.invocation(target))[2];
   }
 
   sysAwakeable() {
-    const handle = this.#one(this.#addon.awakeable(this.#session));
+    const handle = this.#call('awakeable')[2];
     return { handle, id: this.#text(0) };
   }
 
   sysCompleteAwakeable(id, value, how) {
-    this.#made(this.#addon.complete_awakeable(this.#session, lent.text('id', id), lent.value('value', value), named(how)[1]));
+    this.#call('complete_awakeable', lent.text('id', id), lent.value('value', value), named(how)[1]);
   }
 
   createSignalHandle(name) {
-    return this.#one(this.#addon.signal(this.#session, lent.text('name', name)));
+    return this.#call('signal', lent.text('name', name))[2];
   }
 
   sysCompleteSignal(invocationId, name, value) {
     const given = [lent.text('invocationId', invocationId), lent.text('name', name), lent.value('value', value)];
-    this.#made(this.#addon.complete_signal(this.#session, ...given));
+    this.#call('complete_signal', ...given);
   }
 
   sysGetPromise(key) {
-    return this.#one(this.#addon.get_promise(this.#session, lent.text('key', key)));
+    return this.#call('get_promise', lent.text('key', key))[2];
   }
 
   sysPeekPromise(key) {
-    return this.#one(this.#addon.peek_promise(this.#session, lent.text('key', key)));
+    return this.#call('peek_promise', lent.text('key', key))[2];
   }
 
   sysCompletePromise(key, value, how) {
-    return this.#one(this.#addon.complete_promise(this.#session, lent.text('key', key), lent.value('value', value), named(how)[1]));
+    return this.#call('complete_promise', lent.text('key', key), lent.value('value', value), named(how)[1])[2];
   }
 
   sysRun(name) {
-    const [, , handle, replayed] = this.#made(this.#addon.run(this.#session, lent.text('name', name)));
+    const [, , handle, replayed] = this.#call('run', lent.text('name', name));
     return { handle, replayed: replayed === 1 };
   }
 
   proposeRunCompletion(handle, value, policy) {
-    this.#made(this.#addon.propose(this.#session, lent.u32('handle', handle), lent.value('value', value), lent.policy(policy)));
+    this.#call('propose', lent.u32('handle', handle), lent.value('value', value), lent.policy(policy));
   }
 
   proposeRetryableFailure(handle, tookMillis, error, policy) {
     const [run, took, given, under] = [lent.u32('handle', handle), lent.u64('tookMillis', tookMillis), lent.error('error', error), lent.policy(policy)];
-    this.#handIn(given, () => this.#addon.propose_retryable(this.#session, run, took, given, under));
+    this.#handIn(given, 'propose_retryable', run, took, given, under);
   }
 
   sysWriteOutput(value, how) {
-    this.#made(this.#addon.write_output(this.#session, lent.value('value', value), named(how)[1]));
+    this.#call('write_output', lent.value('value', value), named(how)[1]);
   }
 
   sysEnd() {
-    this.#made(this.#addon.end(this.#session));
+    this.#call('end');
   }
 }
 

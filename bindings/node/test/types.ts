@@ -1,5 +1,5 @@
 // What a caller may write, and what the types refuse. It is compiled and not run.
-import { CANCEL_HANDLE, Journal, Suspended, VM, allCompleted, firstCompleted, frames } from 'palqytun';
+import { CANCEL_HANDLE, Journal, JournalMismatch, Suspended, VM, allCompleted, firstCompleted, frames } from 'palqytun';
 import type { Awaited, Handle, Input, Value } from 'palqytun';
 
 const bytes = new Uint8Array(1);
@@ -19,6 +19,8 @@ rows.map((row) => new frames.Message(row.frame).text(0));
 for (const { effect } of rows) if (effect?.kind === 'begin') console.log(effect.service, effect.timeMillis + 1n, effect.completes ?? 0);
 const is = (error: unknown): boolean => error instanceof Suspended && error.code === 599;
 is(null);
+const said = (error: unknown): string => (error instanceof JournalMismatch ? error.inWords({ call: 'ctx.serviceCall' }) + error.difference?.field : '');
+said(null);
 
 // @ts-expect-error a time is no text
 vm.sysSleep('x');

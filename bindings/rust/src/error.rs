@@ -1,7 +1,8 @@
 //! What a call fails by.
 
+use crate::differing::Difference;
 use crate::library::LoadError;
-use crate::sys::{self, MessageType, Status};
+use crate::sys::{self, CommandType, MessageType, Status};
 use std::fmt;
 
 /// What a call returns.
@@ -61,6 +62,8 @@ pub struct VmError {
     pub stacktrace: String,
     /// The command that it relates to.
     pub related: Option<Related>,
+    /// In what the call isn't as the journal has it, if the error is about that and the journal was fed to this VM.
+    pub difference: Option<Difference>,
     /// The kind of the reply, by which a suspension isn't an error with the same code that was handed in.
     pub(crate) kind: u32,
     /// It was handed in, so its code says nothing of the VM.
@@ -143,9 +146,23 @@ fn name_of(code: u16) -> Option<&'static str> {
     })
 }
 
-/// The code, its name if the error is the VM's own, what it says, what is allowed, and the command that it relates to.
-impl fmt::Display for VmError {
-    fn fmt(&self, f: &mut fmt::Formatter<'_>) -> fmt::Result {
+impl VmError {
+    /// The text of the error by an SDK's own names of commands. One without such a name has its own.
+    pub fn in_words(&self, names: impl Fn(CommandType) -> Option<&'static str>) -> String {
+        match &self.difference {
+            Some(it) => format!("{}: {}", self.head(), it.in_words(names)),
+            None => self.to_string(),
+        }
+    }
+
+    /// The text without the command.
+    fn head(&self) -> String {
+        let mut text = String::new();
+        let _ = self.write_head(&mut text);
+        text
+    }
+
+    fn write_head(&self, f: &mut dyn fmt::Write) -> fmt::Result {
         write!(f, "{} ", self.code)?;
         let is_said = |name: &&str| name.eq_ignore_ascii_case(&self.message.replace('_', ""));
         if let Some(name) = name_of(self.code).filter(|it| !self.is_handed_in && !is_said(it)) {
@@ -158,9 +175,18 @@ impl fmt::Display for VmError {
             let form = "the content type must be application/vnd.restate.invocation.vN";
             write!(f, " ({} with N from {} to {})", form, least, most)?;
         }
-        match &self.related {
-            Some(it) => write!(f, " ({})", it),
-            None => Ok(()),
+        Ok(())
+    }
+}
+
+/// The code, its name if the error is the VM's own, what it says, what is allowed, and in what the call isn't as recorded or the command that it relates to.
+impl fmt::Display for VmError {
+    fn fmt(&self, f: &mut fmt::Formatter<'_>) -> fmt::Result {
+        self.write_head(f)?;
+        match (&self.difference, &self.related) {
+            (Some(it), _) => write!(f, ": {}", it),
+            (None, Some(it)) => write!(f, " ({})", it),
+            (None, None) => Ok(()),
         }
     }
 }

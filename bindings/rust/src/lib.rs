@@ -1,6 +1,7 @@
 #![doc = include_str!("../README.md")]
 #![warn(missing_docs)]
 
+mod differing;
 mod error;
 pub mod frames;
 mod future;
@@ -12,6 +13,7 @@ pub mod sys;
 mod values;
 mod vm;
 
+pub use differing::Difference;
 pub use error::{ArgumentError, Error, Related, Result, VmError};
 pub use future::UnresolvedFuture;
 pub use journal::{Journal, Row, Stored};

@@ -1,5 +1,6 @@
 //! The invocation VM: a method for each of its calls, under the call's own name.
 
+use crate::differing::{Call, Difference, Replayed};
 use crate::error::{ArgumentError, Error, Related, Result, VmError};
 use crate::future::UnresolvedFuture;
 use crate::lent::{self, bytes, optional, text};
@@ -12,7 +13,7 @@ use crate::values::{
 };
 use std::cell::Cell;
 use std::marker::PhantomData;
-use std::{fmt, ptr, slice};
+use std::{fmt, mem, ptr, slice};
 
 /// One VM, for one attempt of an invocation. Dropping it frees its memory.
 ///
@@ -43,6 +44,10 @@ pub struct Vm {
     version: u32,
     /// It has failed by an error that was handed in, which each later call returns.
     failed_by_handed_in: bool,
+    /// An error has failed it, which may say in what a call isn't as recorded.
+    is_refused: bool,
+    difference: Option<Difference>,
+    replayed: Replayed,
     /// A VM isn't `Sync`.
     _one_thread: PhantomData<Cell<()>>,
 }
@@ -79,9 +84,19 @@ impl Vm {
         if status != sys::DONE {
             return Err(Error::of_status(status));
         }
-        let mut vm = Vm { library, handle, version: 0, failed_by_handed_in: false, _one_thread: PhantomData };
-        let (asked, options) = (optional(content_type.into()), lent::options(options));
-        vm.version = vm.made(|it, vm| unsafe { (it.make)(vm, asked, &options) })?.first;
+        let mut vm = Vm {
+            library,
+            handle,
+            version: 0,
+            failed_by_handed_in: false,
+            is_refused: false,
+            difference: None,
+            replayed: Replayed::default(),
+            _one_thread: PhantomData,
+        };
+        let (asked, lent) = (optional(content_type.into()), lent::options(options));
+        vm.version = vm.made(|it, vm| unsafe { (it.make)(vm, asked, &lent) })?.first;
+        vm.replayed = Replayed::new(vm.version, options);
         Ok(vm)
     }
 
@@ -101,7 +116,9 @@ impl Vm {
     /// The next bytes of the attempt, cut anywhere. What they spell may fail the VM, which the next call returns.
     pub fn notify_input(&mut self, data: &[u8]) -> Result<()> {
         // SAFETY: the pointer is valid for the length.
-        done(unsafe { (self.library.functions.feed)(self.handle, data.as_ptr(), data.len()) })
+        done(unsafe { (self.library.functions.feed)(self.handle, data.as_ptr(), data.len()) })?;
+        self.replayed.feed(data);
+        Ok(())
     }
 
     /// No more bytes come.
@@ -120,7 +137,11 @@ impl Vm {
     pub fn take_output(&mut self) -> Result<Vec<u8>> {
         let (take, handle) = (self.library.functions.take_output, self.handle);
         // SAFETY: the room is valid for its length.
-        written(|at, len| unsafe { take(handle, at, len) })
+        let output = written(|at, len| unsafe { take(handle, at, len) })?;
+        if !output.is_empty() {
+            self.replayed.ends();
+        }
+        Ok(output)
     }
 
     /// Takes all bytes that wait to be sent, as [`Vm::take_output`] does, and lends them where they lie: none is copied. They are read before the
@@ -139,6 +160,7 @@ impl Vm {
         if lent.len == 0 {
             return Ok(&[]);
         }
+        self.replayed.ends();
         // SAFETY: the bytes stay until the next `lend_output` or the drop, and `self` is borrowed for as long as they are.
         Ok(unsafe { slice::from_raw_parts(lent.at, lent.len) })
     }
@@ -169,6 +191,9 @@ impl Vm {
             [only] if only.kind == sys::SINGLE => self.made(|it, vm| unsafe { (it.r#await)(vm, only.number) })?,
             _ => self.made(|it, vm| unsafe { (it.await_tree)(vm, nodes.as_ptr(), nodes.len()) })?,
         };
+        if replied.kind != sys::AWAKE && replied.kind != sys::CANCELLED {
+            self.replayed.ends();
+        }
         Ok(match replied.kind {
             sys::WAITING => Awaited::WaitingExternalProgress {
                 waiting_input: replied.first == 1,
@@ -203,6 +228,7 @@ impl Vm {
     /// What the handler was called with; its first call.
     pub fn sys_input(&mut self) -> Result<Input> {
         let replied = self.made(|it, vm| unsafe { (it.input)(vm) })?;
+        self.replayed.begins();
         Ok(Input {
             input: self.part(0)?.unwrap_or_default(),
             invocation_id: self.text(1)?,
@@ -238,7 +264,7 @@ impl Vm {
 
     /// Gives a state key a value.
     pub fn sys_state_set(&mut self, key: &str, value: &[u8], name: &str, options: PayloadOptions) -> Result<()> {
-        let unstable = options.unstable_serialization;
+        let unstable = self.payload(options);
         self.nothing(|it, vm| unsafe { (it.state_set)(vm, text(key), bytes(value), text(name), unstable) })
     }
 
@@ -261,7 +287,7 @@ impl Vm {
         options: PayloadOptions,
     ) -> Result<CallHandles> {
         let headers = lent::pairs(target.headers);
-        let (target, unstable) = (lent::target(target, &headers), options.unstable_serialization);
+        let (target, unstable) = (lent::target(target, &headers), self.payload(options));
         let replied = self.made(|it, vm| unsafe { (it.call)(vm, &target, bytes(input), text(name), unstable) })?;
         Ok(CallHandles { invocation_id: replied.first.into(), result: replied.second.into() })
     }
@@ -276,7 +302,7 @@ impl Vm {
         options: PayloadOptions,
     ) -> Result<DeadlineHandles> {
         let headers = lent::pairs(target.headers);
-        let (target, unstable) = (lent::target(target, &headers), options.unstable_serialization);
+        let (target, unstable) = (lent::target(target, &headers), self.payload(options));
         let replied = self.made(|it, vm| unsafe {
             (it.call_with_deadline)(vm, &target, bytes(input), deadline_millis, text(name), unstable)
         })?;
@@ -294,7 +320,7 @@ impl Vm {
         options: PayloadOptions,
     ) -> Result<NotificationHandle> {
         let (headers, at) = (lent::pairs(target.headers), at_millis.unwrap_or(0));
-        let (target, unstable) = (lent::target(target, &headers), options.unstable_serialization);
+        let (target, unstable) = (lent::target(target, &headers), self.payload(options));
         self.handle_of(|it, vm| unsafe { (it.send)(vm, &target, bytes(input), at, text(name), unstable) })
     }
 
@@ -329,7 +355,7 @@ impl Vm {
         options: PayloadOptions,
     ) -> Result<()> {
         let metadata = lent::metadata(value);
-        let (value, unstable) = (lent::value(value, &metadata), options.unstable_serialization);
+        let (value, unstable) = (lent::value(value, &metadata), self.payload(options));
         self.nothing(|it, vm| unsafe { (it.complete_awakeable)(vm, text(id), &value, unstable) })
     }
 
@@ -363,7 +389,7 @@ impl Vm {
         options: PayloadOptions,
     ) -> Result<NotificationHandle> {
         let metadata = lent::metadata(value);
-        let (value, unstable) = (lent::value(value, &metadata), options.unstable_serialization);
+        let (value, unstable) = (lent::value(value, &metadata), self.payload(options));
         self.handle_of(|it, vm| unsafe { (it.complete_promise)(vm, text(key), &value, unstable) })
     }
 
@@ -396,7 +422,9 @@ impl Vm {
             }
             RunResult::RetryableFailure { attempt_duration_millis: took, error } => {
                 let lent = lent::error(error);
-                self.hand_in(error, |it, vm| unsafe { (it.propose_retryable)(vm, handle.into(), *took, &lent, &policy) })
+                self.hand_in(error, |it, vm| unsafe {
+                    (it.propose_retryable)(vm, handle.into(), *took, &lent, &policy)
+                })
             }
         }
     }
@@ -404,7 +432,7 @@ impl Vm {
     /// The handler's result.
     pub fn sys_write_output(&mut self, value: &NonEmptyValue<'_>, options: PayloadOptions) -> Result<()> {
         let metadata = lent::metadata(value);
-        let (value, unstable) = (lent::value(value, &metadata), options.unstable_serialization);
+        let (value, unstable) = (lent::value(value, &metadata), self.payload(options));
         self.nothing(|it, vm| unsafe { (it.write_output)(vm, &value, unstable) })
     }
 
@@ -415,37 +443,46 @@ impl Vm {
 
     // ---- Replies
 
-    /// Makes a typed call. What `call` lends is valid until it returns.
-    fn made(&mut self, call: impl FnOnce(&sys::Functions, Handle) -> Replied) -> Result<Replied> {
+    /// Whether the payload of the next call is unstable.
+    fn payload(&mut self, options: PayloadOptions) -> bool {
+        self.replayed.is_unstable = options.unstable_serialization;
+        options.unstable_serialization
+    }
+
+    /// Makes a typed call. What `call` lends is valid until it returns; it may be made again on another VM, to say in what it isn't as recorded.
+    fn made(&mut self, call: impl Fn(&sys::Functions, Handle) -> Replied) -> Result<Replied> {
         let replied = call(&self.library.functions, self.handle);
-        self.outcome(replied)
+        self.outcome(replied, &call)
+    }
+
+    /// Makes a call of another VM on this one, which is a new one, for what it writes.
+    pub(crate) fn made_again(&mut self, call: Call<'_>) {
+        call(&self.library.functions, self.handle);
     }
 
     /// What a typed call returns that replied this.
-    fn outcome(&self, replied: Replied) -> Result<Replied> {
+    fn outcome(&mut self, replied: Replied, call: Call<'_>) -> Result<Replied> {
+        let is_unstable = mem::take(&mut self.replayed.is_unstable);
         match replied.status {
             sys::DONE => Ok(replied),
-            sys::REFUSED => Err(Error::Vm(Box::new(self.refusal(&replied)?))),
+            sys::REFUSED => Err(Error::Vm(Box::new(self.refusal(&replied, is_unstable, call)?))),
             status => Err(Error::of_status(status)),
         }
     }
 
-    fn nothing(&mut self, call: impl FnOnce(&sys::Functions, Handle) -> Replied) -> Result<()> {
+    fn nothing(&mut self, call: impl Fn(&sys::Functions, Handle) -> Replied) -> Result<()> {
         self.made(call).map(|_| ())
     }
 
     /// Makes a call that hands in this error. If the VM fails by it, each later call is refused by it; a VM that had failed keeps its first error.
-    fn hand_in(
-        &mut self,
-        given: &HandlerError<'_>,
-        call: impl FnOnce(&sys::Functions, Handle) -> Replied,
-    ) -> Result<()> {
+    fn hand_in(&mut self, given: &HandlerError<'_>, call: impl Fn(&sys::Functions, Handle) -> Replied) -> Result<()> {
         if is_failure(&self.ready()) {
             return self.nothing(call);
         }
         let replied = call(&self.library.functions, self.handle);
         self.failed_by_handed_in = self.has_failed_by(given, &replied)?;
-        self.outcome(replied).map(|_| ())
+        self.is_refused |= self.failed_by_handed_in;
+        self.outcome(replied, &call).map(|_| ())
     }
 
     /// Whether the VM has failed by this error, after a call with this reply that handed it in. It may also have failed by one of its own, which
@@ -466,15 +503,15 @@ impl Vm {
         unsafe { (self.library.functions.is_ready)(self.handle) }
     }
 
-    fn flag(&mut self, call: impl FnOnce(&sys::Functions, Handle) -> Replied) -> Result<bool> {
+    fn flag(&mut self, call: impl Fn(&sys::Functions, Handle) -> Replied) -> Result<bool> {
         Ok(self.made(call)?.first == 1)
     }
 
-    fn handle_of(&mut self, call: impl FnOnce(&sys::Functions, Handle) -> Replied) -> Result<NotificationHandle> {
+    fn handle_of(&mut self, call: impl Fn(&sys::Functions, Handle) -> Replied) -> Result<NotificationHandle> {
         Ok(self.made(call)?.first.into())
     }
 
-    fn refusal(&self, replied: &Replied) -> Result<VmError> {
+    fn refusal(&mut self, replied: &Replied, is_unstable: bool, call: Call<'_>) -> Result<VmError> {
         let related = if replied.first == 1 {
             let message = MessageType::of_number(replied.third);
             Some(Related { index: replied.second, message, name: self.text(2)? })
@@ -483,7 +520,28 @@ impl Vm {
         };
         let (message, stacktrace) = (self.text(0)?, self.text(1)?);
         let (code, is_handed_in) = (replied.number as u16, self.failed_by_handed_in && replied.kind == sys::ERROR);
-        Ok(VmError { code, message, stacktrace, related, kind: replied.kind, is_handed_in })
+        let difference = if is_failure(replied) {
+            self.differs(&message, related.as_ref(), is_unstable, call);
+            self.difference.clone()
+        } else {
+            None
+        };
+        Ok(VmError { code, message, stacktrace, related, difference, kind: replied.kind, is_handed_in })
+    }
+
+    /// Notes in what the call isn't as recorded that has failed the VM: it is this one, if none had failed it, and the error has this text and related
+    /// command. If that can't be found, the error says less.
+    fn differs(&mut self, text: &str, related: Option<&Related>, is_unstable: bool, call: Call<'_>) {
+        if mem::replace(&mut self.is_refused, true) {
+            return;
+        }
+        let (last_command_index, handle) = (self.library.functions.last_command_index, self.handle);
+        let last = || {
+            // SAFETY: the handle is that of this VM.
+            let replied = unsafe { last_command_index(handle) };
+            Some(replied.number as u32).filter(|_| replied.kind == sys::INDEX)
+        };
+        self.difference = self.replayed.difference((text, related), is_unstable, call, last).unwrap_or_default();
     }
 
     fn taken(&self, replied: &Replied) -> Result<Option<Value>> {

@@ -50,8 +50,13 @@ fn fits(step: &Json, found: &Result<Json>) -> bool {
             None => step.may_get("returns") == Some(it),
         },
         Err(Error::Vm(it)) => {
-            let error = [("code", Json::number(it.code)), ("message", Json::text(&it.message))];
-            step.may_get("error") == Some(&Json::object(error))
+            let asks = step.may_get("error").and_then(|it| it.may_get("difference")).is_some();
+            let (code, message) = (("code", Json::number(it.code)), ("message", Json::text(&it.message)));
+            let error = match it.difference.as_ref().filter(|_| asks) {
+                Some(it) => Json::object([code, message, ("difference", Json::text(it.to_string()))]),
+                None => Json::object([code, message]),
+            };
+            step.may_get("error") == Some(&error)
         }
         Err(_) => false,
     }
