@@ -31,7 +31,7 @@ def java(it: Bindings) -> None:
     loads(it, "Java", [*command, "About"])
     it.checks.prints("the example of bindings/java/README.md", [*command, "Example"], printed, it.env())
     it.checks.build("the bench for Java", [*command, "Bench", "1"], it.env())
-    for test in ("TestMisuse", "TestMemory"):
+    for test in ("TestMisuse", "TestDiffering", "TestMemory"):
         it.counted(f"{test} of bindings/java", [*command, test])
     lacks_native(it, command)
 

@@ -389,7 +389,11 @@ public final class Conform {
         try {
             return Shown.object("returns", call.on(vm, step));
         } catch (VMException error) {
-            return Shown.object("error", Shown.object("code", new JsonPrimitive(error.code()), "message", Shown.text(error.text())));
+            JsonObject shown = Shown.object("code", new JsonPrimitive(error.code()), "message", Shown.text(error.text()));
+            if (step.has("error") && step.getAsJsonObject("error").has("difference")) {
+                shown.add("difference", Shown.text(error.difference().map(Object::toString).orElse(null)));
+            }
+            return Shown.object("error", shown);
         }
     }
 

@@ -4,7 +4,6 @@ import java.nio.charset.StandardCharsets;
 import java.util.ArrayList;
 import java.util.List;
 import java.util.Optional;
-import java.util.function.Supplier;
 
 /**
  * One VM, for one attempt of an invocation. Threads may share it: one call is made after the other. It is closed by {@link #close}, or once it is garbage.
@@ -42,6 +41,10 @@ public final class VM implements AutoCloseable {
     private final int version;
     /** It has failed by an error that was handed in, which each later call throws. */
     private boolean failedByHandedIn;
+    /** An error has failed it, which may say in what a call isn't as recorded. */
+    private boolean isRefused;
+    private Difference difference;
+    private final Replayed replayed;
 
     /** A VM for the version that the content type names; null stands for an absent header. */
     public VM(String contentType) {
@@ -54,7 +57,8 @@ public final class VM implements AutoCloseable {
         Object[] given = Given.options(options);
         Library.need();
         handle = new Handle(this, Library.open(), Library::close);
-        version = one(Calls.make(at(), asked, given));
+        version = one(vm -> Calls.make(vm, asked, given));
+        replayed = new Replayed(version, options);
     }
 
     /** The version of its messages. */
@@ -82,18 +86,19 @@ public final class VM implements AutoCloseable {
 
     /** The head of the response: status 200, and the content type of the version. */
     public synchronized ResponseHead getResponseHead() {
-        long[] it = done(Calls.head(at()));
+        long[] it = done(vm -> Calls.head(vm));
         return new ResponseHead((int) it[NUMBER], pairs(0, it[ROWS]));
     }
 
     /** The next bytes of the attempt, cut anywhere. What they spell may fail the VM, which the next call throws. */
     public synchronized void notifyInput(byte[] data) {
         Library.done(Calls.feed(at(), Given.bytes("data", data)));
+        replayed.feed(data);
     }
 
     /** No more bytes come. */
     public synchronized void notifyInputClosed() {
-        done(Calls.close_input(at()));
+        done(vm -> Calls.close_input(vm));
     }
 
     /**
@@ -106,26 +111,30 @@ public final class VM implements AutoCloseable {
 
     /** The same, with the command that it relates to. */
     public synchronized void notifyError(HandlerError error, RelatedCommand related) {
-        handIn(error, () -> Calls.report_error(at(), Given.error(error), Given.command(related)));
+        handIn(error, vm -> Calls.report_error(vm, Given.error(error), Given.command(related)));
     }
 
     /** Takes all bytes that wait to be sent: whole frames. */
     public synchronized byte[] takeOutput() {
-        return Library.written(Calls.take_output(at()));
+        byte[] output = Library.written(Calls.take_output(at()));
+        if (output.length > 0) {
+            replayed.ends();
+        }
+        return output;
     }
 
     /** Whether the handler may begin: all known entries were fed. */
     public synchronized boolean isReadyToExecute() {
-        return done(Calls.is_ready(at()))[FIRST] == 1;
+        return done(vm -> Calls.is_ready(vm))[FIRST] == 1;
     }
 
     public synchronized State state() {
-        return State.of(done(Calls.state(at()))[FIRST]);
+        return State.of(done(vm -> Calls.state(vm))[FIRST]);
     }
 
     /** The index of the last command; -1 before any. */
     public synchronized long lastCommandIndex() {
-        long[] it = done(Calls.last_command_index(at()));
+        long[] it = done(vm -> Calls.last_command_index(vm));
         return it[KIND] == Abi.INDEX ? it[NUMBER] : -1;
     }
 
@@ -133,15 +142,18 @@ public final class VM implements AutoCloseable {
 
     /** Whether a handle is awake, or what to do next. */
     public synchronized Awaited doAwait(int awaited) {
-        return awaited(done(Calls.await(at(), Given.u32(awaited))));
+        return awaited(done(vm -> Calls.await(vm, Given.u32(awaited))));
     }
 
     /** The same for a future. */
     public synchronized Awaited doAwait(Future future) {
-        return awaited(done(Calls.await_tree(at(), Given.present("future", "a Future", future).packed())));
+        return awaited(done(vm -> Calls.await_tree(vm, Given.present("future", "a Future", future).packed())));
     }
 
-    private static Awaited awaited(long[] it) {
+    private Awaited awaited(long[] it) {
+        if (it[KIND] != Abi.AWAKE && it[KIND] != Abi.CANCELLED) {
+            replayed.ends();
+        }
         return switch ((int) it[KIND]) {
             case Abi.WAITING -> new Awaited.Waiting(it[FIRST] == 1, it[SECOND] == 1);
             case Abi.EXECUTE_RUN -> new Awaited.ExecuteRun((int) it[FIRST]);
@@ -153,17 +165,17 @@ public final class VM implements AutoCloseable {
 
     /** Whether a take of the handle would return a value. */
     public synchronized boolean isCompleted(int asked) {
-        return done(Calls.is_completed(at(), Given.u32(asked)))[FIRST] == 1;
+        return done(vm -> Calls.is_completed(vm, Given.u32(asked)))[FIRST] == 1;
     }
 
     /** Takes the result of a handle, if it has one. */
     public synchronized Optional<Value> takeNotification(int asked) {
-        return taken(done(Calls.take(at(), Given.u32(asked))));
+        return taken(done(vm -> Calls.take(vm, Given.u32(asked))));
     }
 
     /** Takes the value of an ephemeral read, {@link Value#NOTHING} if the key has none; or nothing if it isn't there. */
     public synchronized Optional<Value> takeEphemeralNotification(int id) {
-        return taken(done(Calls.take_ephemeral(at(), Given.u32(id))));
+        return taken(done(vm -> Calls.take_ephemeral(vm, Given.u32(id))));
     }
 
     private Optional<Value> taken(long[] it) {
@@ -181,7 +193,8 @@ public final class VM implements AutoCloseable {
 
     /** What the handler was called with; its first call. */
     public synchronized Input sysInput() {
-        long[] it = done(Calls.input(at()));
+        long[] it = done(vm -> Calls.input(vm));
+        replayed.begins();
         return new Input(part(0), text(1), text(2), text(3), text(4), text(5), pairs(6, it[ROWS]), it[NUMBER]);
     }
 
@@ -192,7 +205,7 @@ public final class VM implements AutoCloseable {
 
     /** The same, with a name. */
     public synchronized int sysSleep(long wakeUpMillis, String name) {
-        return one(Calls.sleep(at(), Given.text("name", name), wakeUpMillis));
+        return one(vm -> Calls.sleep(vm, Given.text("name", name), wakeUpMillis));
     }
 
     /** Reads the value of a state key: a success, or {@link Value#NOTHING}. */
@@ -202,7 +215,7 @@ public final class VM implements AutoCloseable {
 
     /** The same, with a name. */
     public synchronized int sysStateGet(String key, String name) {
-        return one(Calls.state_get(at(), Given.text("key", key), Given.text("name", name)));
+        return one(vm -> Calls.state_get(vm, Given.text("key", key), Given.text("name", name)));
     }
 
     /** Reads the keys that have a value. */
@@ -212,12 +225,12 @@ public final class VM implements AutoCloseable {
 
     /** The same, with a name. */
     public synchronized int sysStateGetKeys(String name) {
-        return one(Calls.state_get_keys(at(), Given.text("name", name)));
+        return one(vm -> Calls.state_get_keys(vm, Given.text("name", name)));
     }
 
     /** Reads the value of a state key and leaves nothing of it in the journal; returns the read's id. It needs version 8, and is refused in replay. */
     public synchronized int ephemeralStateGet(String key) {
-        return one(Calls.ephemeral_state_get(at(), Given.text("key", key)));
+        return one(vm -> Calls.ephemeral_state_get(vm, Given.text("key", key)));
     }
 
     /** Gives a state key a value. */
@@ -227,7 +240,7 @@ public final class VM implements AutoCloseable {
 
     /** The same, with a name. Replay doesn't compare a value that is unstable. */
     public synchronized void sysStateSet(String key, byte[] value, String name, boolean unstable) {
-        done(Calls.state_set(at(), Given.text("key", key), Given.bytes("value", value), Given.text("name", name), unstable));
+        done(vm -> Calls.state_set(vm, Given.text("key", key), Given.bytes("value", value), Given.text("name", name), unstable), unstable);
     }
 
     /** Takes a state key's value away. */
@@ -237,7 +250,7 @@ public final class VM implements AutoCloseable {
 
     /** The same, with a name. */
     public synchronized void sysStateClear(String key, String name) {
-        done(Calls.state_clear(at(), Given.text("key", key), Given.text("name", name)));
+        done(vm -> Calls.state_clear(vm, Given.text("key", key), Given.text("name", name)));
     }
 
     /** Takes each state key's value away. */
@@ -247,7 +260,7 @@ public final class VM implements AutoCloseable {
 
     /** The same, with a name. */
     public synchronized void sysStateClearAll(String name) {
-        done(Calls.state_clear_all(at(), Given.text("name", name)));
+        done(vm -> Calls.state_clear_all(vm, Given.text("name", name)));
     }
 
     /** Calls another handler. */
@@ -257,7 +270,7 @@ public final class VM implements AutoCloseable {
 
     /** The same, with a name. Replay doesn't compare an input that is unstable. */
     public synchronized Call sysCall(Target target, byte[] input, String name, boolean unstable) {
-        long[] it = done(Calls.call(at(), Given.target(target), Given.bytes("input", input), Given.text("name", name), unstable));
+        long[] it = done(vm -> Calls.call(vm, Given.target(target), Given.bytes("input", input), Given.text("name", name), unstable), unstable);
         return new Call((int) it[FIRST], (int) it[SECOND]);
     }
 
@@ -269,7 +282,7 @@ public final class VM implements AutoCloseable {
     /** The same, with a name. Replay doesn't compare an input that is unstable. */
     public synchronized CallWithDeadline sysCallWithDeadline(Target target, byte[] input, long deadlineMillis, String name, boolean unstable) {
         byte[] named = Given.text("name", name);
-        long[] it = done(Calls.call_with_deadline(at(), Given.target(target), Given.bytes("input", input), deadlineMillis, named, unstable));
+        long[] it = done(vm -> Calls.call_with_deadline(vm, Given.target(target), Given.bytes("input", input), deadlineMillis, named, unstable), unstable);
         return new CallWithDeadline((int) it[FIRST], (int) it[SECOND], (int) it[THIRD]);
     }
 
@@ -280,27 +293,27 @@ public final class VM implements AutoCloseable {
 
     /** The same, at a time; 0 is at once. Replay doesn't compare an input that is unstable. */
     public synchronized int sysSend(Target target, byte[] input, long atMillis, String name, boolean unstable) {
-        return one(Calls.send(at(), Given.target(target), Given.bytes("input", input), atMillis, Given.text("name", name), unstable));
+        return one(vm -> Calls.send(vm, Given.target(target), Given.bytes("input", input), atMillis, Given.text("name", name), unstable), unstable);
     }
 
     /** Sends the cancel signal to another invocation. */
     public synchronized void sysCancelInvocation(String invocationId) {
-        done(Calls.cancel_invocation(at(), Given.text("invocationId", invocationId)));
+        done(vm -> Calls.cancel_invocation(vm, Given.text("invocationId", invocationId)));
     }
 
     /** Attaches to another invocation; returns the handle of its result. */
     public synchronized int sysAttachInvocation(InvocationTarget target) {
-        return one(Calls.attach(at(), Given.invocation(target)));
+        return one(vm -> Calls.attach(vm, Given.invocation(target)));
     }
 
     /** Looks whether another invocation has an output; returns the handle of it, or of {@link Value#NOTHING}. */
     public synchronized int sysGetInvocationOutput(InvocationTarget target) {
-        return one(Calls.get_output(at(), Given.invocation(target)));
+        return one(vm -> Calls.get_output(vm, Given.invocation(target)));
     }
 
     /** Makes an awakeable. */
     public synchronized Awakeable sysAwakeable() {
-        long[] it = done(Calls.awakeable(at()));
+        long[] it = done(vm -> Calls.awakeable(vm));
         return new Awakeable((int) it[FIRST], text(0));
     }
 
@@ -311,27 +324,27 @@ public final class VM implements AutoCloseable {
 
     /** The same. Replay doesn't compare a value that is unstable. */
     public synchronized void sysCompleteAwakeable(String id, Result value, boolean unstable) {
-        done(Calls.complete_awakeable(at(), Given.text("id", id), Given.value("value", value), unstable));
+        done(vm -> Calls.complete_awakeable(vm, Given.text("id", id), Given.value("value", value), unstable), unstable);
     }
 
     /** A handle for the signal of this name. */
     public synchronized int createSignalHandle(String name) {
-        return one(Calls.signal(at(), Given.text("name", name)));
+        return one(vm -> Calls.signal(vm, Given.text("name", name)));
     }
 
     /** Sends a named signal to another invocation. */
     public synchronized void sysCompleteSignal(String invocationId, String name, Result value) {
-        done(Calls.complete_signal(at(), Given.text("invocationId", invocationId), Given.text("name", name), Given.value("value", value)));
+        done(vm -> Calls.complete_signal(vm, Given.text("invocationId", invocationId), Given.text("name", name), Given.value("value", value)));
     }
 
     /** Awaits a promise of the workflow; returns the handle of its value. */
     public synchronized int sysGetPromise(String key) {
-        return one(Calls.get_promise(at(), Given.text("key", key)));
+        return one(vm -> Calls.get_promise(vm, Given.text("key", key)));
     }
 
     /** Looks whether a promise of the workflow is completed; returns the handle of its value, or of {@link Value#NOTHING}. */
     public synchronized int sysPeekPromise(String key) {
-        return one(Calls.peek_promise(at(), Given.text("key", key)));
+        return one(vm -> Calls.peek_promise(vm, Given.text("key", key)));
     }
 
     /** Completes a promise of the workflow; returns the handle of {@link Value#NOTHING}, or of a failure if it had been completed before. */
@@ -341,12 +354,12 @@ public final class VM implements AutoCloseable {
 
     /** The same. Replay doesn't compare a value that is unstable. */
     public synchronized int sysCompletePromise(String key, Result value, boolean unstable) {
-        return one(Calls.complete_promise(at(), Given.text("key", key), Given.value("value", value), unstable));
+        return one(vm -> Calls.complete_promise(vm, Given.text("key", key), Given.value("value", value), unstable), unstable);
     }
 
     /** Calls a run, an effect whose result is recorded; an await says when to execute it. */
     public synchronized Run sysRun(String name) {
-        long[] it = done(Calls.run(at(), Given.text("name", name)));
+        long[] it = done(vm -> Calls.run(vm, Given.text("name", name)));
         return new Run((int) it[FIRST], it[SECOND] == 1);
     }
 
@@ -357,12 +370,12 @@ public final class VM implements AutoCloseable {
 
     /** The same, with the run's policy. */
     public synchronized void proposeRunCompletion(int run, Result value, RetryPolicy policy) {
-        done(Calls.propose(at(), Given.u32(run), Given.value("value", value), Given.policy(policy)));
+        done(vm -> Calls.propose(vm, Given.u32(run), Given.value("value", value), Given.policy(policy)));
     }
 
     /** A try of a run failed after this many milliseconds, and may be made again. */
     public synchronized void proposeRetryableFailure(int run, long tookMillis, HandlerError error, RetryPolicy policy) {
-        handIn(error, () -> Calls.propose_retryable(at(), Given.u32(run), tookMillis, Given.error(error), Given.policy(policy)));
+        handIn(error, vm -> Calls.propose_retryable(vm, Given.u32(run), tookMillis, Given.error(error), Given.policy(policy)));
     }
 
     /** The handler's result. */
@@ -372,12 +385,12 @@ public final class VM implements AutoCloseable {
 
     /** The same. Replay doesn't compare a value that is unstable. */
     public synchronized void sysWriteOutput(Result value, boolean unstable) {
-        done(Calls.write_output(at(), Given.value("value", value), unstable));
+        done(vm -> Calls.write_output(vm, Given.value("value", value), unstable), unstable);
     }
 
     /** The handler ends; its last call. */
     public synchronized void sysEnd() {
-        done(Calls.end(at()));
+        done(vm -> Calls.end(vm));
     }
 
     // ---- Replies
@@ -386,9 +399,18 @@ public final class VM implements AutoCloseable {
         return handle.at();
     }
 
+    /** Makes a typed call, and gives its reply. */
+    private long[] done(Replayed.Call call) {
+        return done(call, false);
+    }
+
+    /** The same of one whose payload may be unstable. */
+    private long[] done(Replayed.Call call, boolean unstable) {
+        return done((long[]) call.on(at()), call, unstable);
+    }
+
     /** The reply of a typed call that was done. */
-    private long[] done(Object returned) {
-        long[] it = (long[]) returned;
+    private long[] done(long[] it, Replayed.Call call, boolean unstable) {
         if (it[STATUS] == Abi.DONE) {
             return it;
         }
@@ -399,17 +421,41 @@ public final class VM implements AutoCloseable {
         if (it[FIRST] == 1) {
             related = new VMException.Related((int) it[SECOND], MessageType.of(it[THIRD]), orEmpty(text(2)));
         }
-        throw VMException.of(it[KIND], failedByHandedIn, (int) it[NUMBER], orEmpty(text(0)), orEmpty(text(1)), related);
+        String text = orEmpty(text(0));
+        String stacktrace = orEmpty(text(1));
+        Difference found = isFailure(it) ? differs(text, related, call, unstable) : null;
+        throw VMException.of(it[KIND], failedByHandedIn, (int) it[NUMBER], text, stacktrace, related, found);
+    }
+
+    /** In what the call isn't as recorded that has failed the VM: it is this one, if none had failed it, and the error has this text and related command. */
+    private Difference differs(String text, VMException.Related related, Replayed.Call call, boolean unstable) {
+        if (!isRefused) {
+            isRefused = true;
+            difference = replayed.difference(text, related, this::lastIndex, call, unstable);
+        }
+        return difference;
+    }
+
+    private long lastIndex() {
+        long[] it = (long[]) Calls.last_command_index(at());
+        return it[KIND] == Abi.INDEX ? it[NUMBER] : -1;
+    }
+
+    /** Makes a call of another VM on this one, which is a new one, for what it writes. */
+    synchronized byte[] madeAgain(Replayed.Call call) {
+        call.on(at());
+        return takeOutput();
     }
 
     /** Makes a call that hands in this error. If the VM fails by it, each later call is refused by it; a VM that had failed keeps its first error. */
-    private void handIn(HandlerError given, Supplier<Object> call) {
+    private void handIn(HandlerError given, Replayed.Call call) {
         boolean hadFailed = isFailure(ready());
-        long[] it = (long[]) call.get();
+        long[] it = (long[]) call.on(at());
         if (!hadFailed) {
             failedByHandedIn = hasFailedBy(given, it);
+            isRefused |= failedByHandedIn;
         }
-        done(it);
+        done(it, call, false);
     }
 
     /**
@@ -430,8 +476,12 @@ public final class VM implements AutoCloseable {
         return it[STATUS] == Abi.REFUSED && it[KIND] == Abi.ERROR;
     }
 
-    private int one(Object returned) {
-        return (int) done(returned)[FIRST];
+    private int one(Replayed.Call call) {
+        return one(call, false);
+    }
+
+    private int one(Replayed.Call call, boolean unstable) {
+        return (int) done(call, unstable)[FIRST];
     }
 
     private byte[] part(long place) {

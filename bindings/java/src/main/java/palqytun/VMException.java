@@ -1,5 +1,6 @@
 package palqytun;
 
+import java.util.Map;
 import java.util.Optional;
 
 /**
@@ -16,13 +17,30 @@ public class VMException extends PalqytunException {
     private final String text;
     private final String stacktrace;
     private final transient Related related;
+    private final transient Difference difference;
+    private final boolean isOwn;
 
-    VMException(int code, String text, String stacktrace, Related related, boolean isOwn) {
-        super(described(code, text, isOwn) + (related == null ? "" : " (" + related + ")"), null);
+    VMException(int code, String text, String stacktrace, Related related, Difference difference, boolean isOwn) {
+        super(described(code, text, isOwn) + about(related, difference, Map.of()), null);
         this.code = code;
         this.text = text;
         this.stacktrace = stacktrace;
         this.related = related;
+        this.difference = difference;
+        this.isOwn = isOwn;
+    }
+
+    /** In what the call isn't as recorded, or the command that the error relates to. */
+    private static String about(Related related, Difference difference, Map<CommandType, String> names) {
+        if (difference != null) {
+            return ": " + difference.inWords(names);
+        }
+        return related == null ? "" : " (" + related + ")";
+    }
+
+    /** The message by an SDK's own names of commands. One that isn't there has its own. */
+    public String inWords(Map<CommandType, String> names) {
+        return described(code, text, isOwn) + about(related, difference, names);
     }
 
     /** What an error says: its code, with its name if the error is the VM's own, its text, and what is allowed. */
@@ -49,17 +67,18 @@ public class VMException extends PalqytunException {
     }
 
     /** The code of an error that was handed in may be any, and says nothing of the VM; no such one is of a suspension's kind. */
-    static VMException of(long kind, boolean isHandedIn, int code, String text, String stacktrace, Related related) {
+    static VMException of(
+            long kind, boolean isHandedIn, int code, String text, String stacktrace, Related related, Difference difference) {
         if (kind == Abi.SUSPENDED) {
-            return new Suspended(code, text, stacktrace, related);
+            return new Suspended(code, text, stacktrace, related, difference);
         }
         if (isHandedIn) {
-            return new VMException(code, text, stacktrace, related, false);
+            return new VMException(code, text, stacktrace, related, difference, false);
         }
         return switch (code) {
-            case Abi.CODE_CLOSED -> new Closed(code, text, stacktrace, related);
-            case Abi.CODE_JOURNAL_MISMATCH -> new JournalMismatch(code, text, stacktrace, related);
-            default -> new VMException(code, text, stacktrace, related, true);
+            case Abi.CODE_CLOSED -> new Closed(code, text, stacktrace, related, difference);
+            case Abi.CODE_JOURNAL_MISMATCH -> new JournalMismatch(code, text, stacktrace, related, difference);
+            default -> new VMException(code, text, stacktrace, related, difference, true);
         };
     }
 
@@ -81,6 +100,11 @@ public class VMException extends PalqytunException {
         return Optional.ofNullable(related);
     }
 
+    /** In what the call isn't as the journal has it, if the error is about that and the journal was fed to this VM. */
+    public Optional<Difference> difference() {
+        return Optional.ofNullable(difference);
+    }
+
     /** A command: its index, the type of its message, and its name. */
     public record Related(int index, MessageType type, String name) {
         @Override
@@ -93,8 +117,8 @@ public class VMException extends PalqytunException {
     public static final class Suspended extends VMException {
         private static final long serialVersionUID = 1L;
 
-        Suspended(int code, String text, String stacktrace, Related related) {
-            super(code, text, stacktrace, related, true);
+        Suspended(int code, String text, String stacktrace, Related related, Difference difference) {
+            super(code, text, stacktrace, related, difference, true);
         }
     }
 
@@ -102,8 +126,8 @@ public class VMException extends PalqytunException {
     public static final class Closed extends VMException {
         private static final long serialVersionUID = 1L;
 
-        Closed(int code, String text, String stacktrace, Related related) {
-            super(code, text, stacktrace, related, true);
+        Closed(int code, String text, String stacktrace, Related related, Difference difference) {
+            super(code, text, stacktrace, related, difference, true);
         }
     }
 
@@ -111,8 +135,8 @@ public class VMException extends PalqytunException {
     public static final class JournalMismatch extends VMException {
         private static final long serialVersionUID = 1L;
 
-        JournalMismatch(int code, String text, String stacktrace, Related related) {
-            super(code, text, stacktrace, related, true);
+        JournalMismatch(int code, String text, String stacktrace, Related related, Difference difference) {
+            super(code, text, stacktrace, related, difference, true);
         }
     }
 }
