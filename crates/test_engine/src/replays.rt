@@ -139,3 +139,23 @@ fn entries_that_are_no_journal_have_a_fault(rt: HostRuntime) -> Result<(), Fail>
     assert!(rt; matches!(shown, Err(JournalFault::BadJournal)));
     Ok(())
 }
+
+/// The parent's answers up to its last command: the input, and one for each of its lines but the end.
+const ANSWERS: u64 = 9;
+
+#[test]
+fn a_step_for_each_answer_is_enough(rt: HostRuntime) -> Result<(), Fail> {
+    let alloc = rt.alloc();
+    let targets = targets(alloc)?;
+    let targets = targets.as_slice();
+    for steps in 0..2 * ANSWERS {
+        let entries = stored(alloc, targets, 0, usize::MAX)?;
+        let shown = checked(alloc, targets, PARENT, Version::V7, entries, steps)?;
+        if steps < ANSWERS {
+            assert!(rt; matches!(shown, Ok(ReplayOutcome::TooFewSteps)));
+        } else {
+            assert!(rt; matches!(shown, Ok(ReplayOutcome::GoesOn)));
+        }
+    }
+    Ok(())
+}

@@ -26,7 +26,7 @@ use Rattle.world_rounds.specs.declared.types.Round.{Round}
 use Rattle.world_rounds.specs.declared.types.Setting.{Setting}
 use Rattle.world_rounds.specs.Guarantees.{Case, HasOneResultEach, HasRightReads, IsHistory, IsReplayable}
 use Rattle.world_rounds.specs.Rounds.{ReplaysAndQueues}
-use Rattle.world_rounds.specs.States.{base_of}
+use Rattle.world_rounds.specs.States.{HaveTextKeys, base_of, pairs_for}
 use Rattle.world_rounds.specs.Worlds.{IsJournal, fixed_in, setup_of, start_message}
 use Rattle.world_rounds.proofs.Completing.{completes_once_too}
 use Rattle.world_rounds.proofs.Replaying.{replay_premises, world_history}
@@ -40,19 +40,19 @@ use Rattle.world_laws.proofs.Replaying.{calls_prove}
 -- ---- steps
 
 -- one more step after them
-pub steps_more : (m : StepFunction) (n : ℕ) (old mid : Record) (progress : Progress) (new : Record) → StepsMade m n old mid → StepDoes m mid (Ok progress) new → StepsMade m (suc n) old new
-steps_more m zero old mid progress new is does = (new, progress, subst (λ (r : Record). StepDoes m r (Ok progress) new) is does, refl)
-steps_more m (suc n) old mid progress new (next, made, first, more) does = (next, made, first, steps_more m n next mid progress new more does)
+pub steps_more : (m : StepFunction) (n : ℕ) (old mid : Record) (progress : Progress) (new : Record) → StepsMade m n old mid → state_of mid.vm.machine ≡ state.Replaying → StepDoes m mid (Ok progress) new → StepsMade m (suc n) old new
+steps_more m zero old mid progress new is at does = (subst (λ (r : Record). state_of r.vm.machine ≡ state.Replaying) is at, new, progress, subst (λ (r : Record). StepDoes m r (Ok progress) new) is does, refl)
+steps_more m (suc n) old mid progress new (here, next, made, first, more) at does = (here, next, made, first, steps_more m n next mid progress new more at does)
 
 -- steps are calls of an attempt
 steps_lead : (m : StepFunction) (n : ℕ) (old new : Record) → StepsMade m n old new → Leads m n old new
 steps_lead m zero old new is = is
-steps_lead m (suc n) old new (mid, progress, does, more) = (mid, Stepping (Ok progress) does, steps_lead m n mid new more)
+steps_lead m (suc n) old new (at, mid, progress, does, more) = (mid, Stepping (Ok progress) does, steps_lead m n mid new more)
 
 -- what was fed stays over them
 steps_heard : (version : Version) (m : StepFunction) (n : ℕ) (old new : Record) → StepsMade m n old new → heard version new ≡ heard version old
 steps_heard version m zero old new is = ap (heard version) is
-steps_heard version m (suc n) old new (mid, progress, does, more) = steps_heard version m n mid new more ∙ step_fed version m old (Ok progress) mid does
+steps_heard version m (suc n) old new (at, mid, progress, does, more) = steps_heard version m n mid new more ∙ step_fed version m old (Ok progress) mid does
 
 -- a number of steps was made, and this number of the limit is left
 pub record Stepped (m : StepFunction) (limit left : ℕ) (old new : Record) : Type 0 where
@@ -75,11 +75,11 @@ lesser n left limit is some = omega arith
 all_made : (n left limit : ℕ) → n + left ≡ limit → left ≡ 0 → n ≡ limit
 all_made n left limit is none = omega arith
 
-pub one_stepped : (m : StepFunction) (limit left : ℕ) (old mid : Record) (progress : Progress) (new : Record) → Stepped m limit left old mid → 0 < left → StepDoes m mid (Ok progress) new → Stepped m limit (left - 1) old new
-one_stepped m limit left old mid progress new x some does = record {
+pub one_stepped : (m : StepFunction) (limit left : ℕ) (old mid : Record) (progress : Progress) (new : Record) → Stepped m limit left old mid → 0 < left → state_of mid.vm.machine ≡ state.Replaying → StepDoes m mid (Ok progress) new → Stepped m limit (left - 1) old new
+one_stepped m limit left old mid progress new x some at does = record {
   n = suc x.n;
   count = same x.n left limit x.count some;
-  steps = steps_more m x.n old mid progress new x.steps does;
+  steps = steps_more m x.n old mid progress new x.steps at does;
 }
   where
     same : (n left limit : ℕ) → n + left ≡ limit → 0 < left → suc n + (left - 1) ≡ limit
@@ -118,20 +118,21 @@ fed_well alloc w piece first a (Ok t) new well does = subst (λ (r : Record). Fe
 fed_well alloc w piece first a (Err e) new well does = absurd (cc)
 
 -- an attempt was fed Start and the journal at once, and made its steps
-pub attempt_shows : (alloc : Global) (m : Meaning) (w : Setting) (round : Round) (journal : List (List ℕ)) (bytes : List ℕ) (first a b : Record) (fed : Result Unit AllocError) (m' : Meaning) (limit : ℕ) (r : Result ReplayOutcome AllocError) → IsJournal journal → round.partial ≡ false → IsWhole (start_message w round journal) → bytes ≡ encoding (start_message w round journal) ++ concat journal
+pub attempt_shows : (alloc : Global) (m : Meaning) (w : Setting) (round : Round) (journal : List (List ℕ)) (bytes : List ℕ) (first a b : Record) (fed : Result Unit AllocError) (m' : Meaning) (limit : ℕ) (r : Result ReplayOutcome AllocError) → IsJournal journal → round.partial ≡ false → IsWhole (start_message w round journal) → HaveTextKeys (pairs_for w round journal) → bytes ≡ encoding (start_message w round journal) ++ concat journal
     → first ≡ fresh_record (made alloc w.options w.version) → is_err fed ≡ false → FeedDoes first.starved bytes first fed a → m' ≡ m → IfOk r (λ o. StepsShow m' limit a b o) → IfOk r (λ o. AttemptShows (case_with m w) journal limit o)
-attempt_shows alloc m w round journal bytes first a b fed m' limit (Ok o) j all whole is new well does m_is shown = record {
+attempt_shows alloc m w round journal bytes first a b fed m' limit (Ok o) j all whole texts is new well does m_is shown = record {
   is_journal = j;
   alloc = alloc;
   round = round;
   whole = all;
   start = whole;
+  texts = texts;
   fed = a;
   feeds = subst (λ l. FeedDoes false l (fresh_record (made alloc w.options w.version)) (Ok tt) a) is (fed_well alloc w bytes first a fed new well does);
   left = b;
   steps = subst (λ n. StepsShow n limit a b o) m_is shown;
 }
-attempt_shows alloc m w round journal bytes first a b fed m' limit (Err e) j all whole is new well does m_is shown = tt
+attempt_shows alloc m w round journal bytes first a b fed m' limit (Err e) j all whole texts is new well does m_is shown = tt
 
 -- ---- a journal
 

@@ -12,3 +12,9 @@ pub mod Parting
 pub mod Replaying
 pub mod Telling
 pub mod Unfinished
+pub mod Weighing
+pub mod Midway
+pub mod FedAlone
+pub mod GoingOn
+pub mod Reaching
+pub mod Failures

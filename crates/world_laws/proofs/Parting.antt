@@ -32,7 +32,7 @@ use Rattle.world_laws.specs.Replays.{PartsAt}
 use Rattle.world_laws.proofs.Replaying.{calls_replay}
 
 -- a machine that is shown as replaying is there
-shows_replaying : (v : Machine) → state_of v ≡ state.Replaying → (v.failure ≡ None) × (v.phase ≡ Replaying)
+pub shows_replaying : (v : Machine) → state_of v ≡ state.Replaying → (v.failure ≡ None) × (v.phase ≡ Replaying)
 shows_replaying v is = by_failure v.failure refl v.phase refl
   where
     by_phase : (p : Phase) → shown_state p ≡ state.Replaying → p ≡ Replaying

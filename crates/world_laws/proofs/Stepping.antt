@@ -46,7 +46,7 @@ runs_after : (left : List RawMessage) → is_running (phase_after left) ≡ true
 runs_after [] = refl
 runs_after (c ∷ left) = refl
 
-lives_at : (s : Setup) (given : StateMap) (written : List RawMessage) (v : Machine) (p : Point) → Agrees s given written v p → IsLive v
+pub lives_at : (s : Setup) (given : StateMap) (written : List RawMessage) (v : Machine) (p : Point) → Agrees s given written v p → IsLive v
 lives_at s given written v p a = record {
   failure = ap (λ (w : Machine). w.failure) a.machine;
   phase = ap (λ (w : Machine). is_running w.phase) a.machine ∙ runs_after p.left;

@@ -9,3 +9,4 @@ pub mod Reports
 pub mod PlayedRounds
 pub mod Reported
 pub mod Unfinished
+pub mod Failures

@@ -1,11 +1,12 @@
 -- What a replay of a stored journal shows.
-use Rattle.std.specs.Prelude.{◌≡◌, ◌≢◌, ◌≤◌, ◌<◌, ◌++◌, ℕ, zero, suc, false, List, [], Result, Ok, Err}
+use Rattle.std.specs.Prelude.{◌≡◌, ◌≢◌, ◌+◌, ◌≤◌, ◌<◌, ◌++◌, length, ℕ, zero, suc, false, List, [], Result, Ok, Err}
 use Rattle.std.proofs.Common.{Global}
 use Rattle.std.specs.List.{concat}
 use Rattle.journal_protocol.specs.Error.{Error}
 use Rattle.journal_protocol.specs.Errors.{no_memory}
 use Rattle.journal_protocol.specs.Frames.{encoding, IsWhole}
 use Rattle.journal_protocol.specs.Version.{Version}
+use Rattle.journal_entries.specs.Arrivals.{most_entries}
 use Rattle.journal_entries.specs.Entries.{journal_entries}
 use Rattle.journal_entries.specs.JournalFrames.{as_entries}
 use Rattle.vm_state.specs.declared.state_map.StateMap.{StateMap}
@@ -24,6 +25,7 @@ use Rattle.vm_attempt.specs.Told.{RefusesReplay, bytes_fed}
 use Rattle.world_rounds.specs.declared.types.Round.{Round}
 use Rattle.world_rounds.specs.declared.types.Setting.{Setting}
 use Rattle.world_rounds.specs.Guarantees.{Case}
+use Rattle.world_rounds.specs.States.{HaveTextKeys, pairs_for}
 use Rattle.world_rounds.specs.Worlds.{IsJournal, setup_of, start_message}
 use Rattle.world_laws.specs.declared.outcome.ReplayOutcome.{ReplayOutcome}
 use Rattle.world_laws.specs.declared.outcome.ReplayOutcome.TheVariants as outcome
@@ -38,6 +40,11 @@ abbrev pub JournalSetsAreCompared : Case → List (List ℕ) → Type 0
 JournalSetsAreCompared c journal =
     ToldSetsAreCompared (setup_of c.setting) c.handler (journal_entries journal)
 
+-- The journal has room for as many entries again: it has at most half as many as a journal may
+-- have.
+abbrev pub HasRoom : List (List ℕ) → Type 0
+HasRoom journal = length journal + length journal ≤ most_entries
+
 -- What an attempt was fed is the Start of a round and then this journal, and nothing else.
 pub record IsFedAlone (w : Setting) (round : Round) (journal : List (List ℕ))
     (r : Record) : Type 0 where
@@ -48,12 +55,13 @@ pub record IsFedAlone (w : Setting) (round : Round) (journal : List (List ℕ))
 
 -- ---- steps
 
--- This number of steps were made, one after another, and none had an error.
+-- This number of steps were made, one after another, each while recorded commands were left, and
+-- none had an error.
 abbrev pub StepsMade : StepFunction → ℕ → Record → Record → Type 0
 StepsMade m zero old new = new ≡ old
 StepsMade m (suc n) old new =
-    (mid : Record) × (progress : Progress) × StepDoes m old (Ok progress) mid
-    × StepsMade m n mid new
+    (state_of old.vm.machine ≡ state.Replaying) × (mid : Record) × (progress : Progress)
+    × StepDoes m old (Ok progress) mid × StepsMade m n mid new
 
 -- what the state of an attempt shows that makes no further step
 abbrev pub shown_at : State → ReplayOutcome
@@ -90,7 +98,8 @@ PartsAt fixed old e new =
 -- ---- a check
 
 -- A new attempt of the handler, made as the setting says, was fed the Start of a round with the
--- whole state and then the journal, and nothing else. Steps up to this limit then show this.
+-- whole state, whose keys are texts, and then the journal, and nothing else. Steps up to this limit
+-- then show this.
 pub record AttemptShows (c : Case) (journal : List (List ℕ)) (limit : ℕ)
     (shown : ReplayOutcome) : Type 0 where
   pub is_journal : IsJournal journal
@@ -98,6 +107,7 @@ pub record AttemptShows (c : Case) (journal : List (List ℕ)) (limit : ℕ)
   pub round : Round
   pub whole : round.partial ≡ false
   pub start : IsWhole (start_message c.setting round journal)
+  pub texts : HaveTextKeys (pairs_for c.setting round journal)
   pub fed : Record
   pub feeds : FeedDoes false (encoding (start_message c.setting round journal) ++ concat journal)
       (fresh_record (made alloc c.setting.options c.setting.version)) (Ok tt) fed

@@ -1,5 +1,5 @@
 //! The laws of replay checks: what a replay of a journal proves, by a handler in any language.
-ghost use Rattle.std.specs.Prelude.{◌≡◌, ◌≢◌, ℕ, List, [], Err};
+ghost use Rattle.std.specs.Prelude.{◌≡◌, ◌≢◌, ◌<◌, ℕ, List, [], Err, length};
 ghost use Rattle.std.proofs.Common.{Global};
 ghost use Rattle.journal_protocol.specs.Error.{Error};
 ghost use Rattle.journal_protocol.specs.Errors.{no_memory};
@@ -20,7 +20,9 @@ ghost use Rattle.vm_attempt.specs.Told.{ProvesHistory, ReplayPremises};
 ghost use Rattle.world_rounds.specs.declared.types.Round.{Round};
 ghost use Rattle.world_rounds.specs.Guarantees.{Case, HasOneResultEach, HasRightReads, IsHistory};
 ghost use Rattle.world_rounds.specs.Rounds.{ReplaysAndQueues};
-ghost use Rattle.world_laws.specs.Replays.{IsFedAlone, PartsAt, case_with};
+ghost use Rattle.world_laws.specs.Replays.{AttemptShows, HasRoom, IsFedAlone, PartsAt, case_with};
+ghost use Rattle.world_laws.specs.declared.outcome.ReplayOutcome.{ReplayOutcome};
+ghost use Rattle.world_laws.specs.declared.outcome.ReplayOutcome.TheVariants as outcome;
 ghost use Rattle.world_laws.specs.ToldSets.{ToldSetsAreCompared};
 
 /// A replay check proves that rounds may go on: if an attempt on a journal was delivered nothing else and has used all recorded
@@ -64,4 +66,14 @@ pub fn calls_prove_histories()
         → state_of old.vm.machine ≡ state.Replaying → old.answers ≢ []
         → ReplayPremises fixed (heard fixed.version old) → StepDoes fixed.handler old (Err e) new
         → e ≢ no_memory → PartsAt fixed old e new }
+{}
+
+/// A replay check of a history doesn't stop before its end: an attempt that is fed Start and a journal, and nothing else, makes the calls
+/// of each recorded command if the journal is a history of its handler. It needs one step more than the history tells answers at most.
+/// The journal has room for as many entries again, so that a cancelled await that began on it has indexes for all its commands.
+pub fn histories_go_on()
+    ensures { (c : Case) (journal : List (List ℕ)) (limit : ℕ) (shown : ReplayOutcome)
+        → AttemptShows c journal limit shown → ReplaysAndQueues c.setting.options
+        → HasRoom journal → (h : IsHistory c journal) → length h.at.answers < limit
+        → shown ≡ outcome.GoesOn }
 {}

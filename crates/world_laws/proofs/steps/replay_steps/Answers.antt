@@ -1,4 +1,4 @@
-use Rattle.std.proofs.Common.{ap, ◌∙◌, subst}
+use Rattle.std.proofs.Common.{ap, ◌∙◌, subst, sym}
 use Rattle.std.specs.Prelude.{Ok}
 use Rattle.vm_attempt.specs.Stepping.{StepDoes}
 use Rattle.world_laws.proofs.Checking.{one_stepped}
@@ -11,5 +11,5 @@ loop-left-preserved g c =
     let next = c.step.new.self.record_of in
     let does = subst (λ h. StepDoes (g.H.Handler.meaning h) here (Ok c.in_default.field-0) next) c.loop-left.invariant.same_handler c.in_default.ensures.does in record {
       same_handler = ap (λ h. h.now) c.step.ensures.handler ∙ c.loop-left.invariant.same_handler;
-      stepped = one_stepped m c.args.steps c.loop-left.left c.args.attempt.now.record_of here c.in_default.field-0 next c.loop-left.invariant.stepped c.loop-left-test.true does;
+      stepped = one_stepped m c.args.steps c.loop-left.left c.args.attempt.now.record_of here c.in_default.field-0 next c.loop-left.invariant.stepped c.loop-left-test.true (sym c.state.ensures.state ∙ c.is_replaying.ensures.0 c.if-not-is_replaying.false) does;
     }

@@ -1,0 +1,5 @@
+use Rattle.world_laws.proofs.Failures.{failed_by_call}
+use Rattle.world_laws.proofs.failing.errors_come_by_calls.Goals as goal
+
+pub returns : goal.returns
+returns c = failed_by_call
