@@ -394,24 +394,25 @@ module _ (c : Case) (round : Round) (journal : List (List ℕ)) (j : IsJournal j
 
     -- ---- what its steps show
 
-    shows : (b : Record) (limit : ℕ) (o : ReplayOutcome) → length h.at.answers < limit → StepsShow c.handler limit a b o → o ≡ outcome.GoesOn
-    shows b limit outcome.GoesOn less x = refl
-    shows b limit (outcome.Differs e) less (n, within, mid, steps, at, does, some) =
+    shows : (b : Record) (limit : ℕ) (o : ReplayOutcome) → StepsShow c.handler limit a b o → (o ≡ outcome.GoesOn) ⊎ ((o ≡ outcome.TooFewSteps) × (limit ≤ length h.at.answers))
+    shows b limit outcome.GoesOn x = inl refl
+    shows b limit (outcome.Differs e) (n, within, mid, steps, at, does, some) =
         let x = led n 0 a mid fed_stands steps in
         absurd (some (goes_on mid x.reaches.stands (shows_replaying mid.vm.machine at) (Err e) b does))
-    shows b limit (outcome.UnsupportedVersion e) less x = absurd x
-    shows b limit outcome.TooFewSteps less (steps, at) =
-        let x = led limit 0 a b fed_stands steps in
+    shows b limit (outcome.UnsupportedVersion e) x = absurd x
+    shows b zero outcome.TooFewSteps x = inr (refl, omega arith)
+    shows b (suc limit) outcome.TooFewSteps (steps, at) =
+        let x = led (suc limit) 0 a b fed_stands steps in
         let count = x.reaches.count in
-        let some : b.answers ≢ [] = λ none. let z : 0 ≡ 0 + limit = ap length (sym none) ∙ count in absurd (omega (arith, z, less)) in
+        let some : b.answers ≢ [] = λ none. let z : 0 ≡ 0 + suc limit = ap length (sym none) ∙ count in absurd (omega (arith, z)) in
         let few = answers_fewer b x.reaches.stands (shows_replaying b.vm.machine at) some in
-        absurd (omega (arith, count, few, less))
-    shows b limit outcome.NotReplayed less (n, within, steps, replays, processes) =
+        inr (refl, omega (arith, count, few))
+    shows b limit outcome.NotReplayed (n, within, steps, replays, processes) =
         let x = led n 0 a b fed_stands steps in
         let first_live : IsLive a.vm.machine = record { failure = stays_live; phase = ap is_running has_journal } in
         let live = ⊎_elim (λ (y : (n ≡ 0) × (b ≡ a)). subst (λ (z : Record). IsLive z.vm.machine) (sym y.1) first_live) (λ (y : IsLive b.vm.machine). y) x.lives in
         absurd (⊎_elim (λ (y : state_of b.vm.machine ≡ state.Replaying). replays y) (λ (y : state_of b.vm.machine ≡ state.Processing). processes y) (shown_running b.vm.machine live))
 
--- A history goes on, where the steps are more than the answers that it tells.
-pub attempt_goes_on : (c : Case) (journal : List (List ℕ)) (limit : ℕ) (o : ReplayOutcome) → AttemptShows c journal limit o → ReplaysAndQueues c.setting.options → HasRoom journal → (h : IsHistory c journal) → length h.at.answers < limit → o ≡ outcome.GoesOn
-attempt_goes_on c journal limit o x r room h less = shows c x.round journal x.is_journal x.start x.texts r h room x.alloc x.fed x.feeds x.left limit o less x.steps
+-- A history goes on, or the steps were too few: no more than the answers that it tells.
+pub attempt_goes_on : (c : Case) (journal : List (List ℕ)) (limit : ℕ) (o : ReplayOutcome) → AttemptShows c journal limit o → ReplaysAndQueues c.setting.options → HasRoom journal → (h : IsHistory c journal) → (o ≡ outcome.GoesOn) ⊎ ((o ≡ outcome.TooFewSteps) × (limit ≤ length h.at.answers))
+attempt_goes_on c journal limit o x r room h = shows c x.round journal x.is_journal x.start x.texts r h room x.alloc x.fed x.feeds x.left limit o x.steps

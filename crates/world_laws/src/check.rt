@@ -1,5 +1,5 @@
 //! Whether a handler goes on with a stored journal.
-ghost use Rattle.std.specs.Prelude.{◌≡◌, ◌⊎◌, ◌<◌, ◌++◌, IfErr, IfOk, Ok, OnOk, length};
+ghost use Rattle.std.specs.Prelude.{◌≡◌, ◌⊎◌, ◌≤◌, ◌++◌, IfErr, IfOk, Ok, OnOk, length};
 ghost use Rattle.std.specs.List.{concat};
 ghost use Rattle.journal_entries.specs.Given.{GivenFaults};
 ghost use Rattle.journal_entries.specs.declared.fault.JournalFault.TheVariants as journal_fault;
@@ -123,12 +123,12 @@ pub fn check_replay<H: Handler>(
         → HasRightReads (case_with (H.meaning handler.now) setting.now) entries.items
         → JournalSetsAreCompared (case_with (H.meaning handler.now) setting.now) entries.items
         → IsReplayable (case_with (H.meaning handler.now) setting.now) entries.items }
-    // The other way round: if the journal is a history of the handler, it goes on with each count of steps that is greater than that of the
-    // answers which the history tells; the journal has room for as many entries again.
+    // The other way round: if the journal is a history of the handler, it goes on, or the steps were too few: no more than the answers
+    // of this history. The journal has room for as many entries again.
     ensures goes_on { IfOk result (λ o. IsSupported setting.now.version
         → ReplaysAndQueues setting.now.options → HasRoom entries.items
         → (h : IsHistory (case_with (H.meaning handler.now) setting.now) entries.items)
-        → length h.at.answers < steps → o ≡ outcome.GoesOn) }
+        → (o ≡ outcome.GoesOn) ⊎ ((o ≡ outcome.TooFewSteps) × (steps ≤ length h.at.answers))) }
     ensures err { IfErr result (λ f. (f ≡ journal_fault.Memory) ⊎ GivenFaults entries.items f) }
 {
     if let Err(error) = supported(setting.version) {

@@ -1,5 +1,5 @@
 //! The laws of replay checks: what a replay of a journal proves, by a handler in any language.
-ghost use Rattle.std.specs.Prelude.{◌≡◌, ◌≢◌, ◌<◌, ℕ, List, [], Err, length};
+ghost use Rattle.std.specs.Prelude.{◌≡◌, ◌≢◌, ◌⊎◌, ◌≤◌, ℕ, List, [], Err, length};
 ghost use Rattle.std.proofs.Common.{Global};
 ghost use Rattle.journal_protocol.specs.Error.{Error};
 ghost use Rattle.journal_protocol.specs.Errors.{no_memory};
@@ -68,12 +68,13 @@ pub fn calls_prove_histories()
         → e ≢ no_memory → PartsAt fixed old e new }
 {}
 
-/// A replay check of a history doesn't stop before its end: an attempt that is fed Start and a journal, and nothing else, makes the calls
-/// of each recorded command if the journal is a history of its handler. It needs one step more than the history tells answers at most.
-/// The journal has room for as many entries again, so that a cancelled await that began on it has indexes for all its commands.
+/// A replay check of a history goes on, if it makes enough steps: an attempt that is fed Start and a journal, and nothing else, makes the
+/// call of each recorded command if the journal is a history of its handler. No call is refused, and if recorded commands are left, the
+/// steps were no more than the answers of the history. The journal has room for as many entries again, so that a cancelled await that
+/// began on it has indexes for all its commands.
 pub fn histories_go_on()
     ensures { (c : Case) (journal : List (List ℕ)) (limit : ℕ) (shown : ReplayOutcome)
         → AttemptShows c journal limit shown → ReplaysAndQueues c.setting.options
-        → HasRoom journal → (h : IsHistory c journal) → length h.at.answers < limit
-        → shown ≡ outcome.GoesOn }
+        → HasRoom journal → (h : IsHistory c journal) → (shown ≡ outcome.GoesOn)
+        ⊎ ((shown ≡ outcome.TooFewSteps) × (limit ≤ length h.at.answers)) }
 {}

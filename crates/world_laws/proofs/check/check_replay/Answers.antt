@@ -26,7 +26,10 @@ returns-in-Ok-replay_of-clause-replayable g c = λ goes r once reads compared.
     told_replayable it c.args.entries.items r (returns-in-Ok-replay_of-clause-history g c goes r once reads) compared
 
 pub returns-in-Ok-replay_of-clause-goes_on : goal.returns-in-Ok-replay_of-clause-goes_on
-returns-in-Ok-replay_of-clause-goes_on g c = λ speaks r room h less.
+returns-in-Ok-replay_of-clause-goes_on g c = λ speaks r room h.
     let it = case_with (g.H.Handler.meaning c.args.handler.now) c.args.setting.now in
     attempt_goes_on it c.args.entries.items c.args.steps c.in-Ok-replay_of.shown
-    (subst (λ journal. AttemptShows it journal c.args.steps c.in-Ok-replay_of.shown) (c.as_slice.ensures.value ∙ c.in-Ok.ensures.journal) c.in-Ok-replay_of.ensures.shown) r room h less
+    (subst (λ journal. AttemptShows it journal c.args.steps c.in-Ok-replay_of.shown) (c.as_slice.ensures.value ∙ c.in-Ok.ensures.journal) c.in-Ok-replay_of.ensures.shown) r room h
+
+pub returns-in-Err-clause-goes_on : goal.returns-in-Err-clause-goes_on
+returns-in-Err-clause-goes_on g c = λ speaks. absurd (cc)
