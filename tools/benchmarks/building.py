@@ -21,6 +21,7 @@ HERE = Path(__file__).resolve().parent
 OUT = TOP / "out/bench"
 REGISTRY = Path("/usr/share/cargo/registry")
 FLAGS = ["-std=gnu11", "-O2", "-Wall", "-Wextra", "-Werror"]
+NOW = ("-Wl,-z,relro", "-Wl,-z,now")  # as rustc links the other side: functions are looked up when a program begins, not at their first call
 CRATES = ("prost", "prost-derive", "bytes", "tracing", "tracing-attributes", "thiserror", "paste", "sha2", "strum-macros")
 NEEDED = ("src/lib.rs", "src/retries.rs", "src/vm/mod.rs")  # what of the original is measured
 UNKNOWN_DERIVE = ", strum::EnumIs"  # Debian's strum-macros has no such derive, and nothing here calls what it makes
@@ -45,7 +46,7 @@ def compile_c(name: str, library: Path) -> Path:
     kept.parent.mkdir(parents=True, exist_ok=True)
     shutil.copy(library, kept)
     source, runtime = HERE / f"c/{name}.c", "-Wl,-rpath,$ORIGIN/lib"
-    run(["cc", *FLAGS, f"-I{TOP}/bindings", source, "-o", made, kept, runtime, "-ldl"], f"compiling {name}.c")
+    run(["cc", *FLAGS, f"-I{TOP}/bindings", source, "-o", made, kept, *NOW, runtime, "-ldl"], f"compiling {name}.c")
     return made
 
 

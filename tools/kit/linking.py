@@ -22,7 +22,7 @@ CLANG = (
     " --no-default-config -no-canonical-prefixes -fintegrated-cc1 -fno-crash-diagnostics -c -x ir -fno-vectorize -fno-slp-vectorize"
 ).split()
 CC = ["cc", "-std=c11", "-O1", "-fPIC", "-fvisibility=default"]
-SHARED = ["-shared", "-Wl,--no-undefined", "-Wl,-z,noexecstack", "-Wl,--gc-sections"]
+SHARED = ["-shared", "-Wl,--no-undefined", "-Wl,-z,noexecstack", "-Wl,-z,relro", "-Wl,-z,now", "-Wl,--gc-sections"]
 HEADERS = ("palqytun.h", "palqytun_flat.h")
 """What is declared to callers, in `bindings`."""
 BETWEEN = ("handles.c", "lending.c", "calls.c", "flat.c", "names.c", "differing.c")

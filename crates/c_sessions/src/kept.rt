@@ -9,6 +9,7 @@ use crate::kind::Kind;
 use crate::parts::{in_taken, part_of};
 use crate::replied::{Replied, numbered, tell, tell_response, tell_taken};
 use await_trees::NotificationHandle;
+use journal_protocol::Error;
 use std::mem::{forget, replace};
 use vm_types::{Answer, AwaitResponse, Reply, VMResult, Value};
 
@@ -34,15 +35,11 @@ fn clear(kept: &mut Reply)
     *kept = Reply::Nothing;
 }
 
-/// Keeps a reply in the place of the last. The last is dropped only if it may own memory; else it is forgotten: that is faster.
-#[inline(always)]
-fn put(kept: &mut Reply, reply: Reply)
-    ensures { kept.new ≡ reply }
-{
+/// Drops the reply that was kept if it may own memory. Else it can be forgotten: that is faster.
+fn release(kept: &mut Reply) {
     if may_hold_memory(kept) {
         clear(kept);
     }
-    forget(replace(kept, reply));
 }
 
 /// How long the first part of a reply is, 0 without one.
@@ -64,14 +61,24 @@ fn summary(reply: &Reply) -> Replied
     replied
 }
 
-/// Keeps a reply of any kind.
+/// Keeps a reply of any kind. The others below make theirs where it is kept, since a reply is large to hand on.
 #[inline(never)]
 pub fn keep(kept: &mut Reply, reply: Reply) -> Replied
     ensures kept { kept.new ≡ reply }
     ensures told { result ≡ summary kept.new }
 {
-    put(kept, reply);
+    release(kept);
+    forget(replace(kept, reply));
     summary(kept)
+}
+
+/// Keeps an error. It is apart, as `clear` is.
+#[inline(never)]
+fn keep_error(kept: &mut Reply, error: Error) -> Replied
+    ensures kept { kept.new ≡ reply.Refused error }
+    ensures told { result ≡ summary kept.new }
+{
+    keep(kept, Reply::Refused(error))
 }
 
 /// Keeps the reply of a call that answers a handle: the handle, or the error.
@@ -82,10 +89,11 @@ pub fn keep_handle(kept: &mut Reply, given: VMResult<NotificationHandle>) -> Rep
     match given {
         Ok(handle) => {
             let number = handle.0;
-            put(kept, Reply::Answer(Answer::Handle(handle)));
+            release(kept);
+            forget(replace(kept, Reply::Answer(Answer::Handle(handle))));
             numbered(Kind::Handle, number, 0, 0)
         }
-        Err(error) => keep(kept, Reply::Refused(error)),
+        Err(error) => keep_error(kept, error),
     }
 }
 
@@ -96,10 +104,11 @@ pub fn keep_ended(kept: &mut Reply, given: VMResult<()>) -> Replied
 {
     match given {
         Ok(()) => {
-            put(kept, Reply::Answer(Answer::Unit));
+            release(kept);
+            forget(replace(kept, Reply::Answer(Answer::Unit)));
             numbered(Kind::Nothing, 0, 0, 0)
         }
-        Err(error) => keep(kept, Reply::Refused(error)),
+        Err(error) => keep_error(kept, error),
     }
 }
 
@@ -111,10 +120,11 @@ pub fn keep_awaited(kept: &mut Reply, given: VMResult<AwaitResponse>) -> Replied
     match given {
         Ok(response) => {
             let replied = tell_response(&response);
-            put(kept, Reply::Awaited(response));
+            release(kept);
+            forget(replace(kept, Reply::Awaited(response)));
             replied
         }
-        Err(error) => keep(kept, Reply::Refused(error)),
+        Err(error) => keep_error(kept, error),
     }
 }
 
@@ -137,9 +147,10 @@ pub fn keep_taken(kept: &mut Reply, given: VMResult<Option<Value>>) -> Replied
         Ok(taken) => {
             let mut replied = tell_taken(&taken);
             replied.len = taken_len(&taken);
-            put(kept, Reply::Answer(Answer::Taken(taken)));
+            release(kept);
+            forget(replace(kept, Reply::Answer(Answer::Taken(taken))));
             replied
         }
-        Err(error) => keep(kept, Reply::Refused(error)),
+        Err(error) => keep_error(kept, error),
     }
 }

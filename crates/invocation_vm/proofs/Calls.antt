@@ -1,6 +1,6 @@
 -- What a call does, from what its event gave and what the error rule made of it.
 use Rattle.std.proofs.Common.{◌≡◌, ◌+◌, ◌<◌, ◌^◌, arith, inl, inr, ◌∙◌, sym, ap, refl, subst, Option, Some, None, Result, Ok, Err, true, false, []}
-use Rattle.std.specs.Prelude.{IfOk, OnOk, OnErr, unwrap_or}
+use Rattle.std.specs.Prelude.{IfOk, OnOk, OnErr, is_some, unwrap_or}
 use Rattle.std.proofs.lemmas.Bool.{false≢true}
 use Rattle.journal_protocol.specs.Error.{Error}
 use Rattle.journal_protocol.specs.Errors.{no_memory}
@@ -17,7 +17,7 @@ use Rattle.vm_machine.specs.Commands.{CanBeRead, HandleFits, answered_by}
 use Rattle.vm_machine.specs.Ephemerals.{answers_ready, may_answer}
 use Rattle.vm_types.specs.declared.types.AwaitResponse.TheVariants.{EphemeralNotificationReady}
 use Rattle.vm_types.specs.declared.types.EphemeralCompletionId.{EphemeralCompletionId}
-use Rattle.invocation_vm.specs.Calls.{CallsAwait, CallsAwaitBy, CallsFlatAwait, CallsTry, result_by}
+use Rattle.invocation_vm.specs.Calls.{ReturnsFirst, CallsAwait, CallsAwaitBy, CallsFlatAwait, CallsTry, result_by}
 use Rattle.invocation_vm.specs.Views.{View}
 use Rattle.await_trees.specs.declared.tree.UnresolvedFuture.{UnresolvedFuture}
 use Rattle.vm_types.specs.declared.types.AwaitResponse.{AwaitResponse}
@@ -110,6 +110,72 @@ none_at {A = A} (Some d) R e old is l =
 
 pub does_none : {A : Type 0} (R : Outcome A → Type 0) (e : Error) (old : Machine) → Lives old.failure (Err e) → DoesBy (CalledBy R old) (Err e) old old
 does_none R e old l = none_at old.failure R e old refl l
+
+-- ---- a call of a failed machine, and one by what its event gave
+
+lives : (f : Option Error) → is_some f ≡ false → Lives f (Ok tt)
+lives None h = refl
+lives (Some e) h = absurd (false≢true (sym h))
+
+first_at : {A : Type 0} (f : Option Error) (o : Outcome A) (r : Result A Error) (old : Machine) → old.failure ≡ f → is_some f ≡ true → ReturnsFirst f r → Does (called_at f o old) r old old
+first_at None o r old is h l = absurd (false≢true h)
+first_at {A = A} (Some e) o r old is h l =
+    elim l as (λ _. Does {A = A} (Failed e old) r old old) [
+      | inl x ↦ rw x (inl refl)
+      | inr x ↦ rw x (inr (stays_starved no_memory e old refl is))
+    ]
+
+pub first_does : {A : Type 0} (o : Outcome A) (r : Result A Error) (old : Machine) → is_some old.failure ≡ true → ReturnsFirst old.failure r → Does (called o old) r old old
+unfolding called
+first_does o r old h l = first_at old.failure o r old refl h l
+
+done_at : {A : Type 0} (f : Option Error) (o : Outcome A) (a : A) (old new : Machine) → is_some f ≡ false → o ≡ Done a new → called_at f o old ≡ Done a new
+done_at None o a old new h is = ap settled is
+done_at (Some e) o a old new h is = absurd (false≢true (sym h))
+
+pub answered_does : {A : Type 0} (o : Outcome A) (given : Result A Fault) (a : A) (old new : Machine) → is_some old.failure ≡ false → given ≡ Ok a → Gives o given old new → Does (called o old) (Ok a) old new
+unfolding called
+answered_does o given a old new h is g = done_at old.failure o a old new h (rw is at g)
+
+pub settled_does : {A : Type 0} (o : Outcome A) (given : Result A Fault) (r : Result A Error) (old mid new : Machine) → is_some old.failure ≡ false → Gives o given old mid → Settles old.counters given r mid new → Does (called o old) r old new
+settled_does o given r old mid new h g s = does_called o given r old mid new (lives old.failure h) g s
+
+-- a call that returns the first error says nothing of a command
+pub first_sent : {A : Type 0} (whole : Type 0) (f : Option Error) (r : Result A Error) → ReturnsFirst f r → OnOk r whole
+first_sent whole None r h = rw h tt
+first_sent whole (Some e) r h = elim h as (λ _. OnOk r whole) [ inl x ↦ rw x tt | inr x ↦ rw x tt ]
+
+pub first_fits : (m : Message) (f : Option Error) (r : Result NotificationHandle Error) → ReturnsFirst f r → IfOk r (HandleFits m)
+first_fits m None r h = rw h tt
+first_fits m (Some e) r h = elim h as (λ _. IfOk r (HandleFits m)) [ inl x ↦ rw x tt | inr x ↦ rw x tt ]
+
+-- a call that is done wrote what can be read back, and its handles fit
+pub answered_sent : {A : Type 0} (m : Message) (v : Machine) (given : Result A Fault) (a : A) → given ≡ Ok a → OnOk given (CanBeRead m v) → CanBeRead m v
+answered_sent m v given a is h = rw is at h
+
+pub answered_fits : (m : Message) (given : Result NotificationHandle Fault) (a : NotificationHandle) → given ≡ Ok a → IfOk given (HandleFits m) → HandleFits m a
+answered_fits m given a is h = rw is at h
+
+first_one_at : {A : Type 0} (f : Option Error) (R : Outcome A → Type 0) (r : Result A Error) (old : Machine) → old.failure ≡ f → is_some f ≡ true → ReturnsFirst f r → DoesBy (CalledAt f R old) r old old
+first_one_at None R r old is h l = absurd (false≢true h)
+first_one_at {A = A} (Some e) R r old is h l =
+    elim l as (λ _. DoesBy (CalledAt {A = A} (Some e) R old) r old old) [
+      | inl x ↦ rw x (inl refl)
+      | inr x ↦ rw x (inr (stays_starved no_memory e old refl is))
+    ]
+
+pub first_does_one : {A : Type 0} (R : Outcome A → Type 0) (r : Result A Error) (old : Machine) → is_some old.failure ≡ true → ReturnsFirst old.failure r → DoesBy (CalledBy R old) r old old
+first_does_one R r old h l = first_one_at old.failure R r old refl h l
+
+done_one_at : {A : Type 0} (f : Option Error) (R : Outcome A → Type 0) (a : A) (old new : Machine) → is_some f ≡ false → R (Done a new) → CalledAt f R old (Done a new)
+done_one_at None R a old new h done = (Done a new, done, refl)
+done_one_at (Some e) R a old new h done = absurd (false≢true (sym h))
+
+pub answered_does_one : {A : Type 0} (R : Outcome A → Type 0) (given : Result A Fault) (a : A) (old new : Machine) → is_some old.failure ≡ false → given ≡ Ok a → GivesBy R given old new → DoesBy (CalledBy R old) (Ok a) old new
+answered_does_one R given a old new h is g = done_one_at old.failure R a old new h (rw is at g)
+
+pub settled_does_one : {A : Type 0} (R : Outcome A → Type 0) (given : Result A Fault) (r : Result A Error) (old mid new : Machine) → is_some old.failure ≡ false → GivesBy R given old mid → Settles old.counters given r mid new → DoesBy (CalledBy R old) r old new
+settled_does_one R given r old mid new h g s = does_one R given r old mid new (lives old.failure h) g s
 
 -- an await whose answer may be an error, from the call that keeps it as an answer
 pub flattens_call : (future : UnresolvedFuture) (answered : Result (Result AwaitResponse Error) Error) (r : Result AwaitResponse Error) (old new : View) → answers_ready old.machine ≡ false → CallsAwait future answered old new → r ≡ flattened answered → CallsFlatAwait future r old new

@@ -105,6 +105,10 @@ goes_on given raw bytes rest m mid new l f g s o h = (
   (raw, first_of_them bytes rest raw f, sym (received_is given raw m mid new l g s)),
 )
 
+-- a frame whose event was done
+pub goes_on_done : (raw : RawMessage) (bytes rest : List ℕ) (m mid : Machine) → m.failure ≡ None → next_of bytes ≡ Whole raw rest → Gives (message_step raw m) (Ok tt) m mid → mid.output ≡ m.output → mid.failure ≡ m.failure → Goes true (record { undecoded = bytes; machine = m }) (record { undecoded = rest; machine = mid })
+goes_on_done raw bytes rest m mid l f g o same = goes_on (Ok tt) raw bytes rest m mid mid l f g (refl, refl) o (rw (same, l) refl)
+
 failed_at : (o : Option Error) (bytes : List ℕ) (new : Machine) → new.failure ≡ o → is_some o ≡ true → consumed (frames_of bytes) new ≡ record { undecoded = []; machine = new }
 failed_at None bytes new e h = absurd (false≢true h)
 failed_at (Some e) bytes new i h = consumed_failed (frames_of bytes) new e i

@@ -1,11 +1,12 @@
 -- The calls of a VM, as events of its machine.
-use Rattle.std.specs.Prelude.{◌≡◌, ℕ, Bool, true, false, if◌then◌else◌, List, [], Option, Some, None, Result, Ok, Err, IfOk, OnOk, string_bytes}
+use Rattle.std.specs.Prelude.{◌≡◌, ◌⊎◌, ℕ, Bool, true, false, if◌then◌else◌, List, [], Option, Some, None, Result, Ok, Err, IfOk, OnOk, string_bytes}
 use Rattle.std.proofs.Common.{Global}
 use Rattle.std.specs.declared.string.String.{String}
 use Rattle.journal_protocol.specs.Error.{Error}
+use Rattle.journal_protocol.specs.Errors.{no_memory}
 use Rattle.journal_protocol.specs.NamedFault.TheVariants as fault
 use Rattle.vm_types.specs.declared.types.AwaitResponse.{AwaitResponse}
-use Rattle.vm_types.specs.declared.types.AwaitResponse.TheVariants.{EphemeralNotificationReady}
+use Rattle.vm_types.specs.declared.types.AwaitResponse.TheVariants.{AnyCompleted, EphemeralNotificationReady}
 use Rattle.vm_types.specs.declared.types.AwakeableHandle.{AwakeableHandle}
 use Rattle.await_trees.specs.declared.handle.NotificationHandle.{NotificationHandle}
 use Rattle.vm_retries.specs.declared.policy.RetryPolicy.{RetryPolicy}
@@ -20,13 +21,13 @@ use Rattle.vm_asks.specs.Asks.{run_command}
 use Rattle.vm_machine.specs.Commands.{CanBeRead, HandleFits, answered_by, commanded, knows_next}
 use Rattle.vm_machine.specs.Ephemerals.{answers_ready, may_answer}
 use Rattle.vm_machine.specs.Several.{AllFit, MakesAll, commanded_before}
-use Rattle.vm_machine.specs.Outcomes.{Outcome, flattened, refused}
+use Rattle.vm_machine.specs.Outcomes.{CalledBy, Done, Outcome, flattened, refused}
 use Rattle.vm_machine.specs.Proposals.{Proposes}
 use Rattle.vm_asks.specs.declared.state_read.StateRead.{StateRead}
 use Rattle.vm_machine.specs.Reads.{ReadCanBeRead, read_step}
 use Rattle.vm_machine.specs.Signals.{awakeable_step}
 use Rattle.vm_types.specs.Options.{skips_replay}
-use Rattle.await_trees.specs.Tree.{tree_of}
+use Rattle.await_trees.specs.Tree.{leaf, tree_of}
 use Rattle.invocation_vm.specs.Views.{View, Calls, CallsBy}
 
 -- A call that has a command: it is answered by its first handle; what it wrote can be read back,
@@ -44,6 +45,11 @@ CallsFor f c r old new =
 -- A call that has a command and answers nothing.
 abbrev pub CallsUnit : Command → Result Unit Error → View → View → Type 0
 CallsUnit c r old new = CallsFor (λ _. tt {0}) c r old new
+
+-- A failed machine's calls return its first error, or out of memory if the error can't be copied.
+abbrev pub ReturnsFirst : {A : Type 0} → Option Error → Result A Error → Type 0
+ReturnsFirst None r = r ≡ Err no_memory
+ReturnsFirst (Some e) r = (r ≡ Err e) ⊎ (r ≡ Err no_memory)
 
 -- a result with this of its answer
 abbrev pub result_by : {A B : Type 0} → (A → B) → Result A Error → Result B Error
@@ -128,6 +134,12 @@ abbrev pub CallsAwaitBy : Bool → UnresolvedFuture → Result AwaitResponse Err
     → Type 0
 CallsAwaitBy true future r old new = AnswersReady r old new
 CallsAwaitBy false future r old new = CallsAnyAwait future r old new
+
+-- An await of a handle wakes at once, or nothing is changed.
+abbrev pub WakesAtOnce : Bool → ℕ → Machine → Machine → Type 0
+WakesAtOnce true handle old new =
+    CalledBy (Awaits (leaf handle) old) old (Done (Ok AnyCompleted) new)
+WakesAtOnce false handle old new = new ≡ old
 
 -- An await of a future.
 abbrev pub CallsFlatAwait : UnresolvedFuture → Result AwaitResponse Error → View → View → Type 0

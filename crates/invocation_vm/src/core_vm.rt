@@ -1,5 +1,5 @@
 //! `CoreVM`: the VM over a decoder and a machine.
-ghost use Rattle.std.specs.Prelude.{◌≡◌, ◌∷◌, [], IfOk, is_some};
+ghost use Rattle.std.specs.Prelude.{◌≡◌, ◌∷◌, [], IfOk, false, is_some};
 ghost use Rattle.std.specs.List.{concat};
 ghost use Rattle.vm_parts.specs.Outboxes.{WholeFrames, WholeStream, len_of};
 ghost use Rattle.vm_asks.specs.Asks.{AnswerFits, all_ids, ask_of, call_handles, deadline_handles, send_handle};
@@ -7,17 +7,18 @@ ghost use Rattle.vm_asks.specs.Requests.{ids_of};
 ghost use Rattle.vm_awaits.specs.Cancels.{Cancels};
 ghost use Rattle.vm_machine.specs.Outcomes.{Lives};
 ghost use Rattle.vm_parts.specs.Tracked.{invocation_ids};
-ghost use Rattle.invocation_vm.specs.Calls.{CallsAll, CallsAllFor, CallsAwait, CallsBefore, CallsCommand, CallsFor, CallsRead, CallsTry, CallsUnit, run_handle};
+ghost use Rattle.invocation_vm.specs.Calls.{CallsAll, CallsAllFor, CallsAwait, CallsAwaitBy, CallsBefore, CallsCommand, CallsFor, CallsRead, CallsTry, CallsUnit, run_handle};
 ghost use Rattle.invocation_vm.specs.Making.{IsSupported, made};
 ghost use Rattle.invocation_vm.specs.Seen.{seen};
 ghost use Rattle.invocation_vm.specs.Views.{Calls};
 
 use crate::shared::{
-    answered_so, both_handles, id_handle, make_awakeable, name_text, run_handle, sends_cancels,
-    three_handles, unanswered,
+    answered_so, both_handles, first_error, id_handle, make_awakeable, name_text, run_handle,
+    sends_cancels, three_handles, unanswered,
 };
 use crate::versions::{response_head, version_in};
 use crate::vm::VM;
+use crate::waking::wakes_at_once;
 use await_trees::{NotificationHandle, UnresolvedFuture};
 use bytes::Bytes;
 use journal_protocol::{Decoder, Error, HeaderMap, InvocationTarget, Version};
@@ -76,7 +77,7 @@ impl fmt::Debug for CoreVM {
     }
 }
 
-#[tactic(auto, using(crate::proofs::Calls::does_called, crate::proofs::Calls::does_failed, crate::proofs::Calls::does_one, crate::proofs::Calls::does_none, crate::proofs::Calls::settles_fits, crate::proofs::Calls::settles_sent, crate::proofs::Calls::called_by, crate::proofs::Calls::sent_by, crate::proofs::Calls::fits_both, crate::proofs::Several::settles_all, crate::proofs::Several::makes_both, crate::proofs::Several::makes_none, crate::proofs::Several::fits_three))]
+#[tactic(auto, using(crate::proofs::Calls::does_called, crate::proofs::Calls::does_failed, crate::proofs::Calls::does_one, crate::proofs::Calls::does_none, crate::proofs::Calls::first_does, crate::proofs::Calls::answered_does, crate::proofs::Calls::settled_does, crate::proofs::Calls::first_sent, crate::proofs::Calls::first_fits, crate::proofs::Calls::answered_sent, crate::proofs::Calls::answered_fits, crate::proofs::Calls::settles_fits, crate::proofs::Calls::settles_sent, crate::proofs::Calls::called_by, crate::proofs::Calls::sent_by, crate::proofs::Calls::fits_both, crate::proofs::Several::settles_all, crate::proofs::Several::makes_both, crate::proofs::Several::makes_none, crate::proofs::Several::fits_three))]
 impl CoreVM {
     /// A VM for a version that `supported` or `version_named` returned. Its one error is out of memory.
     pub fn for_version(
@@ -117,7 +118,7 @@ impl CoreVM {
     fn call(&mut self, command: &mut Command) -> VMResult<NotificationHandle>
         ensures { CallsCommand command.old result (seen self.old) (seen self.new) }
     {
-        event!(self.machine, self.machine.command(command))
+        frequent_event!(self.machine, self.machine.command(command))
     }
 
     /// What a step asks for.
@@ -173,14 +174,29 @@ impl CoreVM {
     pub fn read(&mut self, read: StateRead) -> VMResult<NotificationHandle>
         ensures { CallsRead read result (seen self.old) (seen self.new) }
     {
-        event!(self.machine, make_read(&mut self.machine, &read))
+        frequent_event!(self.machine, make_read(&mut self.machine, &read))
     }
 
     /// A call that has a command and answers nothing.
-    fn unit(&mut self, command: Command) -> VMResult<()>
+    fn unit_of(&mut self, command: &mut Command) -> VMResult<()>
+        ensures { CallsUnit command.old result (seen self.old) (seen self.new) }
+    {
+        unanswered(self.call(command))
+    }
+
+    /// As `unit_of`, where the command isn't used again.
+    fn unit(&mut self, mut command: Command) -> VMResult<()>
         ensures { CallsUnit command result (seen self.old) (seen self.new) }
     {
-        unanswered(self.command(command))
+        self.unit_of(&mut command)
+    }
+
+    /// A run, by whether its result is there already.
+    fn run_of(&mut self, replayed: bool, command: &mut Command) -> VMResult<RunHandle>
+        ensures { CallsFor (run_handle replayed) command.old result (seen self.old)
+            (seen self.new) }
+    {
+        run_handle(replayed, self.call(command))
     }
 
     /// A call of another handler.
@@ -205,13 +221,6 @@ impl CoreVM {
         ensures { CallsFor send_handle command result (seen self.old) (seen self.new) }
     {
         id_handle(self.command(command))
-    }
-
-    /// A run, by whether its result is there already.
-    fn run_of(&mut self, replayed: bool, command: Command) -> VMResult<RunHandle>
-        ensures { CallsFor (run_handle replayed) command result (seen self.old) (seen self.new) }
-    {
-        run_handle(replayed, self.command(command))
     }
 
     /// The first part of an await: notifications are used, and the ids are read of the invocations that are to be cancelled.
@@ -250,6 +259,14 @@ impl CoreVM {
         self.cancel_all(calls)
     }
 
+    /// As `try_await`, of which an error is returned as one. It is apart from the awaits that wake at once.
+    #[inline(never)]
+    fn await_any(&mut self, future: UnresolvedFuture) -> VMResult<AwaitResponse>
+        ensures { CallsAwaitBy false future result (seen self.old) (seen self.new) }
+    {
+        flatten(self.try_await(future))
+    }
+
     /// The bytes that wait to be sent, which stay there: whole frames.
     pub fn waiting_output(&self) -> Result<Bytes, AllocError>
         ensures bytes { IfOk result (λ bytes. bytes ≡ concat (seen self.now).machine.output) }
@@ -284,7 +301,7 @@ impl CoreVM {
     }
 }
 
-#[tactic(auto, using(crate::proofs::Calls::flattens_call, crate::proofs::Calls::answers_read, crate::proofs::Calls::does_called, crate::proofs::Calls::does_failed, crate::proofs::Feeds::leaves_called, crate::proofs::Feeds::stays_called))]
+#[tactic(auto, using(crate::proofs::AtOnce::awakes, crate::proofs::AtOnce::stays, crate::proofs::AtOnce::awaits_any, crate::proofs::Calls::answers_read, crate::proofs::Calls::does_called, crate::proofs::Calls::does_failed, crate::proofs::Calls::first_does, crate::proofs::Calls::answered_does, crate::proofs::Calls::settled_does, crate::proofs::Calls::first_does_one, crate::proofs::Calls::answered_does_one, crate::proofs::Calls::settled_does_one, crate::proofs::Feeds::leaves_called, crate::proofs::Feeds::stays_called))]
 impl VM for CoreVM {
     ghost view = { λ s. record { undecoded = s.decoder; machine = s.machine } };
 
@@ -293,8 +310,12 @@ impl VM for CoreVM {
             Ok(version) => version,
             Err(error) => return Err(error),
         };
-        match CoreVM::for_version(alloc, version, options) {
-            Ok(vm) => Ok(vm),
+        // As `for_version`: a VM is large to hand on.
+        match Machine::new(alloc, version, options) {
+            Ok(machine) => Ok(CoreVM {
+                decoder: Decoder::new(alloc),
+                machine,
+            }),
             Err(error) => Err(Error::from(error)),
         }
     }
@@ -359,11 +380,21 @@ impl VM for CoreVM {
         if let Some(id) = ready_ephemeral(&self.machine) {
             return Ok(AwaitResponse::EphemeralNotificationReady(id));
         }
-        flatten(self.try_await(future))
+        let handle = match &future {
+            UnresolvedFuture::Single(handle) => handle.0,
+            _ => return self.await_any(future),
+        };
+        if wakes_at_once(&mut self.machine, handle) {
+            return Ok(AwaitResponse::AnyCompleted);
+        }
+        self.await_any(future)
     }
 
     fn take_notification(&mut self, handle: NotificationHandle) -> VMResult<Option<Value>> {
-        event!(self.machine, take(&mut self.machine, handle))
+        if self.machine.has_failed() {
+            return first_error(&self.machine);
+        }
+        settled_event!(self.machine, take(&mut self.machine, handle), settle)
     }
 
     fn sys_input(&mut self) -> VMResult<Input> {
@@ -376,7 +407,8 @@ impl VM for CoreVM {
         wake_up_time_since_unix_epoch: Duration,
         now_since_unix_epoch: Option<Duration>,
     ) -> VMResult<NotificationHandle> {
-        self.command(asks::sleep(Text::from_string(name), wake_up_time_since_unix_epoch))
+        let mut command = asks::sleep(Text::from_string(name), wake_up_time_since_unix_epoch);
+        self.call(&mut command)
     }
 
     fn ephemeral_state_get(&mut self, key: String) -> VMResult<EphemeralCompletionId> {
@@ -401,7 +433,8 @@ impl VM for CoreVM {
         options: PayloadOptions,
     ) -> VMResult<()> {
         let name = name_text(self.machine.alloc, name);
-        self.unit(asks::set_state(Text::from_string(key), value, name, options))
+        let mut command = asks::set_state(Text::from_string(key), value, name, options);
+        self.unit_of(&mut command)
     }
 
     fn sys_state_clear(&mut self, key: String, name: Option<String>) -> VMResult<()> {
@@ -479,7 +512,7 @@ impl VM for CoreVM {
     }
 
     fn create_signal_handle(&mut self, signal_name: String) -> VMResult<NotificationHandle> {
-        event!(
+        frequent_event!(
             self.machine,
             signal(&mut self.machine, Text::from_string(signal_name))
         )
@@ -543,7 +576,8 @@ impl VM for CoreVM {
 
     fn sys_run(&mut self, name: String) -> VMResult<RunHandle> {
         let replayed = self.machine.knows_next();
-        self.run_of(replayed, asks::run(Text::from_string(name)))
+        let mut command = asks::run(Text::from_string(name));
+        self.run_of(replayed, &mut command)
     }
 
     fn propose_run_completion(
@@ -552,7 +586,7 @@ impl VM for CoreVM {
         run_exit_result: RunExitResult,
         retry_policy: RetryPolicy,
     ) -> VMResult<()> {
-        event!(
+        frequent_event!(
             self.machine,
             finish_run(
                 &mut self.machine,

@@ -30,7 +30,12 @@ impl CoreVM {
         let Some(raw) = next else {
             return Ok(false);
         };
-        match quiet_event!(self.machine, receive(&mut self.machine, raw)) {
+        let before = self.machine.counters;
+        let given = receive(&mut self.machine, raw);
+        if let Ok(()) = &given {
+            return Ok(true);
+        }
+        match self.machine.settle_quietly(before, given) {
             Ok(()) => {}
             Err(error) => return Err(error),
         }

@@ -22,6 +22,21 @@ macro_rules! event {
     }};
 }
 
+/// As `event`, of a call that is made often and answers numbers. An error is large, so only what has one hands one on.
+macro_rules! frequent_event {
+    ($machine:expr, $event:expr) => {{
+        if $machine.has_failed() {
+            return first_error(&$machine);
+        }
+        let before = $machine.counters;
+        let given = $event;
+        if let Ok(answer) = &given {
+            return Ok(*answer);
+        }
+        $machine.settle(before, given)
+    }};
+}
+
 /// One event of a machine that hasn't failed, in a call whose one error is out of memory.
 macro_rules! quiet_event {
     ($machine:expr, $event:expr) => {
@@ -43,6 +58,7 @@ mod shared;
 mod step;
 mod versions;
 mod vm;
+mod waking;
 
 pub use core_vm::CoreVM;
 pub use feed::any_cut;

@@ -3,11 +3,11 @@ ghost use Rattle.std.specs.Prelude.{◌≡◌, ◌+◌, ◌<◌, ◌^◌, IfOk};
 ghost use Rattle.vm_asks.specs.Asks.{call_handles, deadline_handles, send_handle};
 ghost use Rattle.vm_awaits.specs.Cancels.{sends_cancels};
 ghost use Rattle.vm_machine.specs.Outcomes.{Gives};
-ghost use Rattle.invocation_vm.specs.Calls.{name_or_empty, new_awakeable_step, result_by, run_handle};
+ghost use Rattle.invocation_vm.specs.Calls.{ReturnsFirst, name_or_empty, new_awakeable_step, result_by, run_handle};
 ghost use Rattle.vm_machine.specs.Several.{answered_so};
 
 use await_trees::NotificationHandle;
-use journal_protocol::NamedFault;
+use journal_protocol::{Error, NamedFault};
 use plain::Text;
 use std::alloc::Global;
 use vm_asks::asks::{call_handles, deadline_handles, send_handle};
@@ -17,6 +17,18 @@ use vm_machine::{Fault, Machine, refuse};
 use vm_types::{
     AwaitResponse, AwakeableHandle, CallHandle, DeadlineCallHandle, RunHandle, SendHandle, VMResult,
 };
+
+/// What a call of a machine that has failed returns: its first error. It is apart, since a function sets all that its ways hold to zero
+/// where it begins.
+#[inline(never)]
+pub(crate) fn first_error<T: Drop>(machine: &Machine) -> VMResult<T>
+    ensures { ReturnsFirst machine.now.failure result }
+{
+    match machine.live() {
+        Err(error) => Err(error),
+        Ok(()) => Err(Error::named(NamedFault::Memory, None)),
+    }
+}
 
 /// An absent name is empty.
 pub(crate) fn name_text(alloc: Global, name: Option<String>) -> Text

@@ -1,14 +1,18 @@
 //! Awaits of trees: notifications are used until the tree is awake, or the cancel signal is there; else the machine waits for what is
 //! left of the tree.
-ghost use Rattle.std.specs.Prelude.{◌≡◌, ◌∷◌, ◌++◌, [], false, find, IfNone, IfOk, IfSome, OnOk, OnErr};
+ghost use Rattle.std.specs.Prelude.{◌≡◌, ◌∷◌, ◌++◌, [], Err, None, false, find, IfNone, IfOk, IfSome, OnOk, OnErr};
 ghost use Rattle.std.specs.List.{list_any};
 ghost use Rattle.std.specs.Option.{option_and_then, option_map};
 ghost use Rattle.await_trees.specs.Tree.{leaf, tree_of};
 ghost use Rattle.await_trees.specs.Wires.{sent};
+ghost use Rattle.await_tries.specs.Await.{LeftPending};
 ghost use Rattle.await_tries.specs.Left.{tree_left};
 ghost use Rattle.await_tries.specs.Message.{ids};
 ghost use Rattle.await_tries.specs.Pairs.{first_of_two};
+ghost use Rattle.journal_protocol.specs.Errors.{named_error};
 ghost use Rattle.journal_protocol.specs.Frames.{encoding};
+ghost use Rattle.journal_protocol.specs.NamedFault.TheVariants.{Suspended};
+ghost use Rattle.journal_protocol.specs.SignalDelivery.{SignalDelivery as Delivery};
 ghost use Rattle.vm_runs.specs.Pending.{handle_of, is_executing, may_execute};
 ghost use Rattle.vm_runs.specs.Settling.{run_as_related};
 ghost use Rattle.journal_protocol.specs.Message.TheVariants as message;
@@ -17,7 +21,7 @@ ghost use Rattle.vm_types.specs.Options.{ends_awaits};
 ghost use Rattle.vm_parts.specs.Ephemerals.{any_in_flight};
 ghost use Rattle.vm_parts.specs.Tracked.{id_of_result, unresolved_handles};
 ghost use Rattle.vm_machine.specs.Phases.{is_replaying};
-ghost use Rattle.vm_awaits.specs.Awaits.{Awaits, Gathers, ReadsId, Tries, TriesOrCancels, allows, awaiting_said, executed, has_woken, is_cancelled, is_first_of_none, last_run, or_cancelled, pending_on, result_at, says_so, signal_in, waiting, waits_by};
+ghost use Rattle.vm_awaits.specs.Awaits.{Awaits, EndsBy, Gathers, ReadsId, Tries, TriesOrCancels, allows, awaiting_said, executed, has_woken, is_cancelled, is_first_of_none, last_run, or_cancelled, pending_on, result_at, says_so, signal_in, suspended, waiting, waits_by};
 ghost use Rattle.vm_machine.specs.Proposals.{run_at};
 ghost use Rattle.vm_awaits.specs.Cancels.{cancel_taken};
 
@@ -85,19 +89,28 @@ fn or_cancelled(alloc: Global, future: UnresolvedFuture) -> Result<UnresolvedFut
     Ok(UnresolvedFuture::FirstCompleted(Items::from_vec(children)))
 }
 
-/// Writes a suspension on what is left of a tree.
-fn suspend_on(machine: &mut Machine, left: &Residue) -> Result<(), AllocError>
-    ensures ok { OnOk result (machine.new
-        ≡ record machine.old {
-          output = machine.old.output
-              ++ encoding (message.Suspension
-              (record { future = sent (ids machine.old.results) (tree_left left.now) })) ∷ [];
-        }) }
+/// The invocation is suspended on a future.
+fn suspend(machine: &mut Machine, future: Future) -> Result<Awaited, AllocError>
+    ensures ok { IfOk result (λ answer. answer ≡ Err (named_error Suspended None)) }
+    ensures done { OnOk result (machine.new ≡ suspended future machine.old) }
+    ensures err { OnErr result (machine.new ≡ machine.old) }
+{
+    let message = Message::Suspension(Suspension { future });
+    machine.output.write(machine.alloc, &message)?;
+    machine.output_ended = true;
+    machine.phase = Phase::Closed;
+    Ok(Awaited::suspended())
+}
+
+/// The invocation is suspended on what is left of a tree.
+fn suspend_on(machine: &mut Machine, left: &Residue) -> Result<Awaited, AllocError>
+    ensures ok { IfOk result (λ answer. answer ≡ Err (named_error Suspended None)) }
+    ensures done { OnOk result (machine.new
+        ≡ suspended (sent (ids machine.old.results) (tree_left left.now)) machine.old) }
     ensures err { OnErr result (machine.new ≡ machine.old) }
 {
     let future = future_of(machine.alloc, &machine.results, left)?;
-    let message = Message::Suspension(Suspension { future });
-    machine.output.write(machine.alloc, &message)
+    suspend(machine, future)
 }
 
 /// Whether an await that waits says what for.
@@ -222,10 +235,7 @@ fn wait_or_suspend(machine: &mut Machine, left: &Residue, executing: bool) -> Re
             waiting_run_proposal: true,
         }));
     }
-    suspend_on(machine, left)?;
-    machine.output_ended = true;
-    machine.phase = Phase::Closed;
-    Ok(Awaited::suspended())
+    Ok(suspend_on(machine, left)?)
 }
 
 /// An await that stays pending on what is left of a tree.
@@ -284,11 +294,48 @@ fn wait_on_either(machine: &mut Machine, handle: u32) -> Result<(), AllocError>
     say_two(machine, handle, CANCEL_NOTIFICATION_HANDLE.0)
 }
 
-/// As `pend_on`, of a handle or the cancel signal, in Processing and with open input.
+/// The invocation is suspended on a handle or the cancel signal.
+fn suspend_on_either(machine: &mut Machine, handle: u32) -> Result<Awaited, AllocError>
+    ensures ok { IfOk result (λ answer. answer ≡ Err (named_error Suspended None)) }
+    ensures done { OnOk result (machine.new
+        ≡ suspended (sent (ids machine.old.results) (or_cancelled (leaf handle))) machine.old) }
+    ensures err { OnErr result (machine.new ≡ machine.old) }
+{
+    let cancel = CANCEL_NOTIFICATION_HANDLE.0;
+    let future = future_of_two(machine.alloc, &machine.results, handle, cancel)?;
+    suspend(machine, future)
+}
+
+/// As `wait_or_suspend`, of a handle or the cancel signal.
+fn wait_or_suspend_either(
+    machine: &mut Machine,
+    handle: u32,
+    executing: bool,
+) -> Result<Awaited, Fault>
+    ensures { Gives (waits_by machine.old.input_closed (any_in_flight machine.old.ephemeral)
+        executing (or_cancelled (leaf handle)) machine.old) result machine.old machine.new }
+{
+    if !machine.input_closed {
+        wait_on_either(machine, handle)?;
+        return Ok(Awaited::with(AwaitResponse::WaitingExternalProgress {
+            waiting_input: true,
+            waiting_run_proposal: executing,
+        }));
+    }
+    match (machine.ephemeral.any_in_flight(), executing) {
+        (true, _) => Err(refuse(NamedFault::InputClosedWhileWaitingEphemeralNotifications)),
+        (false, true) => Ok(Awaited::with(AwaitResponse::WaitingExternalProgress {
+            waiting_input: false,
+            waiting_run_proposal: true,
+        })),
+        (false, false) => Ok(suspend_on_either(machine, handle)?),
+    }
+}
+
+/// As `pend_on`, of a handle or the cancel signal, in Processing.
 #[inline(never)]
 fn pend_on_either(machine: &mut Machine, handle: u32) -> Result<Awaited, Fault>
     requires past { is_replaying machine.old.phase ≡ false }
-    requires open { machine.old.input_closed ≡ false }
     ensures { Gives (pending_on (or_cancelled (leaf handle)) machine.old) result
         machine.old
         machine.new }
@@ -298,11 +345,7 @@ fn pend_on_either(machine: &mut Machine, handle: u32) -> Result<Awaited, Fault>
         return Ok(Awaited::with(AwaitResponse::ExecuteRun(run)));
     }
     let executing = machine.runs.any_executing_in_this_set(&handles);
-    wait_on_either(machine, handle)?;
-    Ok(Awaited::with(AwaitResponse::WaitingExternalProgress {
-        waiting_input: true,
-        waiting_run_proposal: executing,
-    }))
+    wait_or_suspend_either(machine, handle, executing)
 }
 
 /// One try of a future by the notifications alone; it may stay pending.
@@ -360,6 +403,7 @@ fn read_id(machine: &mut Machine, handle: u32) -> Result<Awaited, Fault>
 }
 
 /// Reads the ids of tracked calls that aren't known, as they come.
+#[inline(never)]
 fn gather_ids(machine: &mut Machine) -> Result<Awaited, Fault>
     ensures { GivesBy (Gathers (unresolved_handles machine.old.tracked) machine.old) result
         machine.old
@@ -386,52 +430,79 @@ fn try_both(machine: &mut Machine, future: UnresolvedFuture) -> Result<Awaited, 
     given
 }
 
-/// One try of a handle, or of the cancel signal. It needs no tree, but where an await in replay or with closed input stays pending.
-#[inline(never)]
-fn try_either(machine: &mut Machine, handle: u32) -> Result<Awaited, Fault>
-    ensures { GivesBy (Tries (or_cancelled (leaf handle)) machine.old) result
+/// Ends an await that has woken, by whether the cancel signal is there.
+fn end_awake(machine: &mut Machine) -> Result<Awaited, Fault>
+    ensures { GivesBy (EndsBy (is_cancelled machine.old) machine.old) result
         machine.old
         machine.new }
 {
-    let cancel = CANCEL_NOTIFICATION_HANDLE.0;
-    if let Some(enough) = uses_until_either(&machine.results, handle, cancel) {
-        use_first(&mut machine.results, enough);
-        return Ok(Awaited::with(AwaitResponse::AnyCompleted));
-    }
-    if machine.input_closed || machine.phase.is_replaying() {
-        return try_both(
-            machine,
-            UnresolvedFuture::Single(NotificationHandle(handle)),
-        );
-    }
-    use_all(&mut machine.results);
-    pend_on_either(machine, handle)
-}
-
-/// One try of a future, or of the cancel signal.
-fn try_with_cancel(machine: &mut Machine, future: UnresolvedFuture) -> Result<Awaited, Fault>
-    ensures { GivesBy (Tries (or_cancelled (tree_of future)) machine.old) result
-        machine.old
-        machine.new }
-{
-    if let UnresolvedFuture::Single(handle) = &future {
-        return try_either(machine, handle.0);
-    }
-    try_both(machine, future)
-}
-
-/// Awaits a future, or the cancel signal.
-fn try_or_cancel(machine: &mut Machine, future: UnresolvedFuture) -> Result<Awaited, Fault>
-    ensures { GivesBy (TriesOrCancels (tree_of future) machine.old) result machine.old machine.new }
-{
-    let answer = try_with_cancel(machine, future)?;
-    if !has_woken(&answer) {
-        return Ok(answer);
-    }
     if !is_cancelled(machine) {
         return Ok(Awaited::with(AwaitResponse::AnyCompleted));
     }
     gather_ids(machine)
+}
+
+/// Awaits a future, or the cancel signal, by a walk over the tree of both.
+#[inline(never)]
+fn try_or_cancel(machine: &mut Machine, future: UnresolvedFuture) -> Result<Awaited, Fault>
+    ensures { GivesBy (TriesOrCancels (tree_of future) machine.old) result machine.old machine.new }
+{
+    let answer = try_both(machine, future)?;
+    if !has_woken(&answer) {
+        return Ok(answer);
+    }
+    end_awake(machine)
+}
+
+/// Awaits a handle that isn't there, or the cancel signal, which isn't either. It needs no tree, except in replay.
+#[inline(never)]
+fn pend_or_cancel(machine: &mut Machine, handle: u32) -> Result<Awaited, Fault>
+    requires { (delivery : Delivery)
+        → LeftPending delivery machine.old.results (first_of_two handle 1) (first_of_two handle 1) }
+    ensures { GivesBy (TriesOrCancels (leaf handle) machine.old) result machine.old machine.new }
+{
+    if !machine.phase.is_replaying() {
+        use_all(&mut machine.results);
+        return pend_on_either(machine, handle);
+    }
+    try_or_cancel(
+        machine,
+        UnresolvedFuture::Single(NotificationHandle(handle)),
+    )
+}
+
+/// Awaits a handle, or the cancel signal. What wakes at once is most usual, so all else is apart.
+fn await_either(machine: &mut Machine, handle: u32) -> Result<Awaited, Fault>
+    ensures { GivesBy (TriesOrCancels (leaf handle) machine.old) result machine.old machine.new }
+{
+    let cancel = CANCEL_NOTIFICATION_HANDLE.0;
+    match uses_until_either(&machine.results, handle, cancel) {
+        Some(enough) => {
+            use_first(&mut machine.results, enough);
+            end_awake(machine)
+        }
+        None => pend_or_cancel(machine, handle),
+    }
+}
+
+/// Awaits a future, or the cancel signal. That of one handle needs no tree.
+fn await_or_cancel(machine: &mut Machine, future: UnresolvedFuture) -> Result<Awaited, Fault>
+    ensures { GivesBy (TriesOrCancels (tree_of future) machine.old) result machine.old machine.new }
+{
+    if let UnresolvedFuture::Single(handle) = &future {
+        return await_either(machine, handle.0);
+    }
+    try_or_cancel(machine, future)
+}
+
+/// Awaits a future by the notifications alone.
+#[inline(never)]
+fn try_future_alone(machine: &mut Machine, future: UnresolvedFuture) -> Result<Awaited, Fault>
+    ensures { GivesBy (Tries (tree_of future) machine.old) result machine.old machine.new }
+{
+    let given = try_alone(machine, &future);
+    drop(future);
+    given
 }
 
 /// The handler awaits a tree. The inner error is an answer by which the machine doesn't fail.
@@ -442,11 +513,9 @@ pub fn await_tree(machine: &mut Machine, future: UnresolvedFuture) -> Result<Awa
         return Err(refuse(machine.phase.fault()));
     }
     if ends_awaits(machine.options.implicit_cancellation) {
-        return try_or_cancel(machine, future);
+        return await_or_cancel(machine, future);
     }
-    let given = try_alone(machine, &future);
-    drop(future);
-    given
+    try_future_alone(machine, future)
 }
 
 /// Takes one result of the cancel handle.

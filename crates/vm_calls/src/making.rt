@@ -15,23 +15,8 @@ fn replace(vm: &mut Option<CoreVM>, new: Option<CoreVM>)
     *vm = new;
 }
 
-/// Makes a new VM. Answers its version, or why it wasn't made.
+/// Replaces the last VM by a new one. The last one is dropped first. Returns the new one's version, or why none was made.
 #[tactic(auto, using(crate::proofs::Made::made_as_asked))]
-fn make(alloc: Global, content_type: ContentType, options: VMOptions) -> (Reply, Option<CoreVM>)
-    ensures { VmIsMade alloc options (version_in (header_under content_type (codes "content-type")))
-        result.0
-        result.1 }
-{
-    match CoreVM::new(alloc, content_type, options) {
-        Ok(new) => {
-            let version = new.version();
-            (Reply::Made(version), Some(new))
-        }
-        Err(error) => (Reply::Refused(error), None),
-    }
-}
-
-/// Replaces the last VM by a new one. The last one is dropped first.
 pub fn make_anew(
     alloc: Global,
     vm: &mut Option<CoreVM>,
@@ -43,7 +28,12 @@ pub fn make_anew(
         vm.new }
 {
     replace(vm, None);
-    let (reply, made) = make(alloc, content_type, options);
-    replace(vm, made);
-    reply
+    match CoreVM::new(alloc, content_type, options) {
+        Ok(new) => {
+            let version = new.version();
+            replace(vm, Some(new));
+            Reply::Made(version)
+        }
+        Err(error) => Reply::Refused(error),
+    }
 }

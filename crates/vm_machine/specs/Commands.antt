@@ -1,6 +1,6 @@
 -- What a call with a command does: in Processing its command is written, in replay the recorded one
 -- is popped.
-use Rattle.std.specs.Prelude.{◌≡◌, ℕ, ◌+◌, ◌<◌, ◌^◌, Bool, true, ◌==◌, if◌then◌else◌, List, [], ◌∷◌, ◌++◌, Option, Some, None, Result, IfOk, OnOk}
+use Rattle.std.specs.Prelude.{◌≡◌, ℕ, ◌+◌, ◌<◌, ◌^◌, Bool, true, false, ◌==◌, if◌then◌else◌, List, [], ◌∷◌, ◌++◌, Option, Some, None, Result, IfOk, OnOk}
 use Rattle.journal_protocol.specs.Error.{Error}
 use Rattle.journal_protocol.specs.NamedFault.{NamedFault}
 use Rattle.journal_protocol.specs.NamedFault.TheVariants as fault
@@ -75,6 +75,16 @@ popped_from (raw ∷ rest) ty v = of_type raw ty
 -- the next recorded command is popped; it has to be of this type
 unfoldable pub popped : MessageType → Machine → Outcome RawMessage
 popped ty v = popped_from v.commands ty v
+
+-- a mismatch, unless two commands are equal
+abbrev pub mismatch_unless : Bool → Option NamedFault
+mismatch_unless true = None
+mismatch_unless false = Some fault.CommandMismatch
+
+-- why a recorded command isn't the call's, if it isn't
+abbrev pub misfit_of : Message → Bool → Option Message → Option NamedFault
+misfit_of m ignore None = Some fault.BadMessage
+misfit_of m ignore (Some recorded) = mismatch_unless (header_equal recorded m ignore)
 
 -- the recorded command has to be header-equal to the call's
 abbrev pub compared : Message → Bool → Option Message → Machine → Outcome Unit

@@ -1,9 +1,10 @@
 //! The event of all calls that have a command: the command is written, or in replay the recorded one is popped.
 ghost use Rattle.std.specs.Prelude.{◌≡◌, ◌<◌, ◌+◌, ◌^◌, ◌∷◌, [], true, Some, IfNone, IfSome, IfOk, OnOk, OnErr};
+ghost use Rattle.journal_protocol.specs.Bodies.{message_in};
 ghost use Rattle.journal_protocol.specs.Errors.{named_error};
 ghost use Rattle.journal_protocol.specs.Frames.{IsWhole, type_of};
 ghost use Rattle.vm_machine.specs.Outcomes.{Gives, about_last, last_related, lasting};
-ghost use Rattle.vm_machine.specs.Commands.{entered, phase_after, written, popped, replayed, carried_out, handed_out, knows_next, runs_after, Carries, Issues};
+ghost use Rattle.vm_machine.specs.Commands.{entered, phase_after, written, popped, replayed, carried_out, handed_out, knows_next, misfit_of, mismatch_unless, runs_after, Carries, Issues};
 ghost use Rattle.vm_types.specs.Options.{checks_are_off};
 ghost use Rattle.vm_machine.specs.Phases.{is_processing};
 ghost use Rattle.vm_asks.specs.Requests.{changed, ids_of, tracked_after};
@@ -16,7 +17,7 @@ use journal_protocol::{
     Error, Message, MessageType, NamedFault, NotificationId, RawMessage, RelatedCommand, header_eq,
 };
 use plain::{Text, copy_of};
-use std::alloc::AllocError;
+use std::alloc::{AllocError, Global};
 use vm_asks::Command;
 use vm_asks::request::{give_ids, ids_of, is_cancelled_with, name_of, shown_type};
 use vm_parts::{LastCommand, Queue};
@@ -37,6 +38,35 @@ fn phase_after(commands: &Queue<RawMessage>) -> Phase
         Phase::Processing
     } else {
         Phase::Replaying
+    }
+}
+
+/// A mismatch, unless the commands are equal.
+fn mismatch_unless(equal: bool) -> Option<NamedFault>
+    ensures { result ≡ mismatch_unless equal }
+{
+    if equal {
+        None
+    } else {
+        Some(NamedFault::CommandMismatch)
+    }
+}
+
+/// Why a recorded command isn't this one, if it isn't. It is looked at where it was read, since a message is large to hand on.
+fn misfit(
+    alloc: Global,
+    raw: &RawMessage,
+    asked: &Message,
+    ignore_payloads: bool,
+) -> Result<Option<NamedFault>, AllocError>
+    ensures { IfOk result (λ fault. fault
+        ≡ misfit_of asked.now ignore_payloads (message_in raw.now.ty raw.now.body)) }
+{
+    let read = raw.read(alloc);
+    match &read {
+        Ok(recorded) => Ok(mismatch_unless(header_eq(recorded, asked, ignore_payloads))),
+        Err(plain::Fault::Memory) => Err(AllocError),
+        Err(plain::Fault::Malformed) => Ok(Some(NamedFault::BadMessage)),
     }
 }
 
@@ -102,25 +132,16 @@ impl Machine {
         Ok(raw)
     }
 
-    #[tactic(auto, unfolding(crate::specs::Commands::replayed))]
+    #[tactic(auto, unfolding(crate::specs::Commands::replayed), using(crate::proofs::Replaying::replays_fit))]
     #[inline(never)]
     fn replay(&mut self, message: &Message, ignore_payloads: bool) -> Result<(), Fault>
         ensures { Gives (replayed message.now ignore_payloads self.old) result self.old self.new }
     {
         let raw = self.pop(message.ty())?;
-        let recorded = match raw.read(self.alloc) {
-            Ok(recorded) => recorded,
-            Err(plain::Fault::Memory) => return Err(Fault::Memory),
-            Err(plain::Fault::Malformed) => {
-                return Err(Fault::Refused(self.about_last(NamedFault::BadMessage)?));
-            }
-        };
-        let equal = header_eq(&recorded, message, ignore_payloads);
-        drop(recorded);
-        if !equal {
-            return Err(Fault::Refused(self.about_last(NamedFault::CommandMismatch)?));
+        match misfit(self.alloc, &raw, message, ignore_payloads)? {
+            None => Ok(()),
+            Some(fault) => Err(Fault::Refused(self.about_last(fault)?)),
         }
-        Ok(())
     }
 
     pub fn write(&mut self, message: &Message) -> Result<(), AllocError>
