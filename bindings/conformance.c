@@ -233,6 +233,10 @@ static void add_nodes(json *it, palqytun_node *nodes, size_t *len)
 
 typedef palqytun_replied call_of(palqytun_vm *vm, json *step);
 
+/* What the VM of a row was fed. */
+static uint8_t fed[1 << 22];
+static size_t fed_len;
+
 static palqytun_replied make(palqytun_vm *vm, json *step)
 {
     static const char *const cancel[] = {"calls", "none", "sends", "both", "off", NULL}, *const checks[] = {"on", "off", NULL};
@@ -247,6 +251,10 @@ static palqytun_replied make(palqytun_vm *vm, json *step)
 static palqytun_replied notify_input(palqytun_vm *vm, json *step)
 {
     palqytun_bytes data = octets(step, "data");
+    if (sizeof fed - fed_len < data.len)
+        fail("a journal is too long", "");
+    memcpy(fed + fed_len, data.at, data.len);
+    fed_len += data.len;
     return (palqytun_replied){.status = palqytun_feed(vm, data.at, data.len)};
 }
 
@@ -614,6 +622,63 @@ static call_of *call_named(const char *name)
     return NULL;
 }
 
+/* ---- In what a call isn't as recorded */
+
+enum { SHOWN = 128, OUTPUT = 1 << 21 };
+
+static void feed_line(palqytun_vm *vm, const char *line)
+{
+    uint8_t frame[256];
+    palqytun_told told = palqytun_line_frame((const uint8_t *)line, strlen(line), frame, sizeof frame);
+    if (told.status != PALQYTUN_DONE || palqytun_feed(vm, frame, told.len) != PALQYTUN_DONE)
+        fail("no frame", line);
+}
+
+/* What the call of a step writes on a new VM, over an input alone. */
+static size_t made_again(json *step, uint32_t version, bool is_lazy, uint8_t *output)
+{
+    palqytun_vm *vm;
+    char content_type[64];
+    snprintf(content_type, sizeof content_type, "application/vnd.restate.invocation.v%" PRIu32, version);
+    palqytun_optional asked = {true, {(const uint8_t *)content_type, strlen(content_type)}};
+    palqytun_options options = {.awaiting = PALQYTUN_AWAITING_DONT_SEND};
+    if (palqytun_open(&vm) != PALQYTUN_DONE || palqytun_make(vm, asked, &options).status != PALQYTUN_DONE)
+        fail("no VM", "");
+    feed_line(vm, is_lazy ? "Start id=\"-\" debug_id=\"-\" known_entries=1 partial=true" : "Start id=\"-\" debug_id=\"-\" known_entries=1");
+    feed_line(vm, "Input");
+    palqytun_input(vm);
+    call_named(json_object_get_string(field(step, "call")))(vm, step);
+    palqytun_told told = palqytun_take_output(vm, output, OUTPUT);
+    palqytun_close(vm);
+    return told.status == PALQYTUN_DONE ? told.len : 0;
+}
+
+/* In what the call of a step isn't as recorded, in words, by its error. */
+static json *difference(palqytun_vm *vm, json *step, palqytun_replied it, uint32_t version)
+{
+    static uint8_t asked[OUTPUT];
+    char parts[3][SHOWN] = {"", "nothing", "nothing"}, said[4 * SHOWN];
+    uint32_t index = it.first ? it.second : (uint32_t)palqytun_last_command_index(vm).number + 1, type = it.first ? it.third : 0;
+    palqytun_compared types = palqytun_mismatch(fed, fed_len, index, type);
+    bool is_one = types.is_recorded && types.is_asked && types.recorded == types.asked, is_unstable = flag(step, "unstable");
+    size_t len = is_one ? made_again(step, version, types.is_lazy, asked) : 0;
+    for (size_t at = 0; at < 3; at++) {
+        palqytun_told told = palqytun_mismatch_part(fed, fed_len, index, type, asked, len, is_unstable, at, (uint8_t *)parts[at], SHOWN - 1);
+        if (told.status == PALQYTUN_DONE)
+            parts[at][told.len] = 0;
+    }
+    if (is_one)
+        snprintf(said, sizeof said, "command %" PRIu32 ", %s, is recorded with %s %s, and the call gives %s", index, COMMANDS[types.recorded], parts[0], parts[1],
+            parts[2]);
+    else if (!types.is_recorded)
+        snprintf(said, sizeof said, "no command is recorded at %" PRIu32 ", and the call makes %s", index, parts[2]);
+    else if (!types.is_asked)
+        snprintf(said, sizeof said, "command %" PRIu32 " is recorded as %s, and the code awaits what hasn't come", index, parts[1]);
+    else
+        snprintf(said, sizeof said, "command %" PRIu32 " is recorded as %s, and the call makes %s", index, parts[1], parts[2]);
+    return json_object_new_string(said);
+}
+
 /* What a step wants, if it isn't frames. */
 static json *wanted_of(json *step)
 {
@@ -639,6 +704,8 @@ static bool fits(palqytun_vm *vm, json *step, uint32_t *version)
     json *found = it.status == PALQYTUN_REFUSED
         ? one("error", two("code", json_object_new_uint64(it.number), "message", text_part(vm, 0)))
         : one("returns", returned(vm, name, it, *version));
+    if (it.status == PALQYTUN_REFUSED && field(field(step, "error"), "difference"))
+        json_object_object_add(field(found, "error"), "difference", difference(vm, step, it, *version));
     json *types = field(step, "frames"), *wanted = wanted_of(step);
     bool is_so = types ? it.status == PALQYTUN_DONE && are_frames(field(found, "returns"), types) : json_object_equal(found, wanted);
     if (!is_so)
@@ -656,6 +723,7 @@ static bool play(json *row)
     if (palqytun_open(&vm) != PALQYTUN_DONE)
         fail("no memory", "");
     json *steps = field(row, "steps");
+    fed_len = 0;
     for (size_t at = 0; at < json_object_array_length(steps); at++) {
         is_well = fits(vm, json_object_array_get_idx(steps, at), &version) && is_well;
         end_of_loan();

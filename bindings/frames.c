@@ -1,5 +1,5 @@
-/* Frames: each as its line and back, a result that is put into a notification, whether a suspension is awake by it, and in which field two commands
-   differ; and what a frame says without text. */
+/* Frames: each as its line and back, a result that is put into a notification, whether a suspension is awake by it, in which field two commands
+   differ, and in what a call isn't as recorded; and what a frame says without text. */
 #include "palqytun.h"
 
 #include <inttypes.h>
@@ -132,6 +132,37 @@ static int differ(void)
     return 0;
 }
 
+/* Says in what a call isn't as the journal has it, by what a VM was fed and what the call wrote where nothing is recorded. */
+static int mismatch(void)
+{
+    static const char *const both[] = {
+        "Call service_name=\"Greeter\" handler_name=\"greet\" parameter=\"Ada\" invocation_id_notification_idx=1 result_completion_id=2",
+        "Call service_name=\"Greeter\" handler_name=\"greet\" parameter=\"Bob\" invocation_id_notification_idx=1 result_completion_id=2",
+    };
+    written fed, recorded, asked;
+    uint32_t status = frame_of("Input", &fed);
+    if (status == PALQYTUN_DONE)
+        status = frame_of(both[0], &recorded);
+    if (status == PALQYTUN_DONE)
+        status = frame_of(both[1], &asked);
+    if (status != PALQYTUN_DONE)
+        return failed(status);
+    memcpy(fed.bytes + fed.len, recorded.bytes, recorded.len);
+    fed.len += recorded.len;
+    palqytun_compared types = palqytun_mismatch(fed.bytes, fed.len, 1, PALQYTUN_MESSAGE_CALL_COMMAND);
+    printf("command %" PRIu32 ", and the call makes %" PRIu32 ":", types.recorded, types.asked);
+    for (size_t at = 0; at < 3; at++) {
+        uint8_t part[128];
+        palqytun_told told = palqytun_mismatch_part(
+            fed.bytes, fed.len, 1, PALQYTUN_MESSAGE_CALL_COMMAND, asked.bytes, asked.len, false, at, part, sizeof part);
+        if (told.status != PALQYTUN_DONE)
+            return failed(told.status);
+        printf(" %.*s", (int)told.len, (const char *)part);
+    }
+    printf("\n");
+    return 0;
+}
+
 int main(void)
 {
     for (size_t at = 0; at < sizeof lines / sizeof *lines; at++) {
@@ -152,5 +183,7 @@ int main(void)
         bad = read_parts();
     if (!bad)
         bad = hold((const uint8_t *)"Till", 4);
-    return bad ? bad : differ();
+    if (!bad)
+        bad = differ();
+    return bad ? bad : mismatch();
 }

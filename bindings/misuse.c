@@ -187,6 +187,10 @@ static void pointers(void)
     gets("an endless value", palqytun_state_set(vm, bytes("k"), endless, nothing, false).status, PALQYTUN_BAD_POINTER);
     gets("endless nodes", palqytun_await_tree(vm, &(palqytun_node){0}, SIZE_MAX / 4).status, PALQYTUN_BAD_POINTER);
     gets("an endless frame", palqytun_frame_read(begun, SIZE_MAX).status, PALQYTUN_BAD_POINTER);
+    gets("a journal at NULL", palqytun_mismatch(NULL, 1, 0, 0).status, PALQYTUN_BAD_POINTER);
+    gets("an endless journal", palqytun_mismatch(begun, SIZE_MAX, 0, 0).status, PALQYTUN_BAD_POINTER);
+    gets("a call at NULL", palqytun_mismatch_part(begun, sizeof begun, 0, 10, NULL, 1, false, 0, NULL, 0).status, PALQYTUN_BAD_POINTER);
+    gets("room at NULL", palqytun_mismatch_part(begun, sizeof begun, 0, 10, NULL, 0, false, 0, NULL, 1).status, PALQYTUN_BAD_POINTER);
     gets("it goes on", palqytun_state(vm).status, PALQYTUN_DONE);
     palqytun_close(vm);
 }
@@ -209,6 +213,12 @@ static void values(void)
     gets("no kind", palqytun_attach(vm, &(palqytun_invocation){.kind = 3}).status, PALQYTUN_BAD_NUMBER);
     gets("no policy", palqytun_propose_retryable(vm, 17, 1, &error, &(palqytun_policy){.kind = 4}).status, PALQYTUN_BAD_NUMBER);
     gets("a factor over 0", palqytun_propose_retryable(vm, 17, 1, &error, &(palqytun_policy){.kind = 3, .numerator = 1}).status, PALQYTUN_BAD_NUMBER);
+    gets("no command's type", palqytun_mismatch(begun, sizeof begun, 0, PALQYTUN_MESSAGE_NOTIFICATION).status, PALQYTUN_BAD_NUMBER);
+    gets("a type of no message", palqytun_mismatch(begun, sizeof begun, 0, UINT32_MAX).status, PALQYTUN_BAD_NUMBER);
+    gets("no command on either side", palqytun_mismatch(begun, sizeof begun, UINT32_MAX, 0).status, PALQYTUN_NO_PART);
+    gets("half of a journal", palqytun_mismatch(begun, sizeof begun - 1, 0, PALQYTUN_MESSAGE_RUN_COMMAND).status, PALQYTUN_DONE);
+    gets("no room for a field", palqytun_mismatch_part(begun, sizeof begun, 0, PALQYTUN_MESSAGE_RUN_COMMAND, NULL, 0, false, 0, NULL, 0).status, PALQYTUN_NO_ROOM);
+    gets("a part that there isn't", palqytun_mismatch_part(begun, sizeof begun, 0, PALQYTUN_MESSAGE_RUN_COMMAND, NULL, 0, false, SIZE_MAX, NULL, 0).status, PALQYTUN_NO_PART);
     gets("no such kind of id", palqytun_notification(3, 1, NULL, 0, input, sizeof input, NULL, 0).status, PALQYTUN_BAD_NUMBER);
     gets("bad UTF-8", palqytun_sleep(vm, bad_text, 1).status, PALQYTUN_BAD_TEXT);
     gets("bad UTF-8", palqytun_state_get(vm, bad_text, nothing).status, PALQYTUN_BAD_TEXT);

@@ -178,7 +178,7 @@ func (vm *VM) DoAwait(future Future) (awaited Awaited, err error) {
 			C.pq_await(vm.handle, C.uint32_t(handle), it)
 			return
 		}
-		nodes := future.nodes(nil)
+		nodes := future.(*tree).nodes
 		C.pq_await_tree(vm.handle, &nodes[0], C.size_t(len(nodes)), it)
 	}
 	err = vm.told(call, func() error {

@@ -71,6 +71,11 @@ def line_before_counts(output: str) -> str:
     return last_line("\n".join(output.rstrip().splitlines()[:-1]))
 
 
+def line_of_rounds(output: str) -> str:
+    """What the longest races have said."""
+    return next((it for it in output.splitlines() if " rounds: " in it), last_line(output))
+
+
 def tests(it: Options) -> Job:
     """rt ci at the top of the repository, where all crates are."""
     return replace(job("tests", "rt", "ci"), env={"RT_JOBS": str(lanes())})
@@ -142,7 +147,12 @@ def hostile(it: Options) -> Job:
 
 
 def sanitizers(it: Options) -> Job:
-    return script("sanitizers", "tools/bindings", "--library", it.library, "sanitizers", "valgrind", "valgrind-python", "races")
+    return script("sanitizers", "tools/bindings", "--library", it.library, "sanitizers", "valgrind", "valgrind-python")
+
+
+def races(it: Options) -> Job:
+    """Each two calls of the interface for C, on two to eight threads, for 300,000 rounds."""
+    return script("races", "tools/bindings", "--library", it.library, "races")
 
 
 def limit_of(it: Options) -> str:
@@ -198,7 +208,8 @@ PARTS = [
         lambda said: "; ".join(said.strip().splitlines()[-2:]),
     ),
     Part("hostile", "time and memory on input that is deep, long or many", hostile, lambda it: it.kind, line_before_counts),
-    Part("sanitizers", "the examples in C and Python with sanitizers and under valgrind, and long races of all calls", sanitizers, lambda it: it.kind, last_line),
+    Part("sanitizers", "the examples in C and Python with sanitizers and under valgrind", sanitizers, lambda it: it.kind, last_line),
+    Part("races", "each two calls of the interface for C race for 300,000 rounds", races, lambda it: it.kind, line_of_rounds),
 ]
 
 
