@@ -20,6 +20,7 @@ from support import PYTHON
 
 if lacks := needs.lacks_server():
     raise unittest.SkipTest(lacks)
+import spoken
 from palqytun.runtime import command
 from palqytun.runtime.replay import PROVES
 
@@ -131,26 +132,27 @@ class Serving(support.OnADatabase):
             assert it.ask(f"/-/invocations/{made['invocation']}/resume", method="POST")[0] == 409
 
     def test_the_command(self):
+        """A command that loads no app is given in this process (spoken.py): Python begins with what it imports in a quarter of a second."""
         with server(self.url, self.folder) as it:
             it.ask("/Shop/order", ORDER)
             _, waits = it.ask("/Approval/a/ask/send", "red?")
             it.until_suspended(waits)
-            status, listed, _ = palqytun("invocations", "list", "--db", self.url)
+            status, listed, _ = spoken.palqytun("invocations", "list", "--db", self.url)
             assert status == 0 and "done" in listed and "suspended  Approval/a/ask" in listed
-            status, shown, _ = palqytun("invocations", "inspect", waits["invocation"], "--db", self.url)
+            status, shown, _ = spoken.palqytun("invocations", "inspect", waits["invocation"], "--db", self.url)
             assert status == 0 and "# status: suspended" in shown and "\nGetPromise" in shown
             assert palqytun("replay", str(SHOP), "--db", self.url) == (0, f"Approval/ask: 1 of 1 open invocations go on\n1 journals are replayed, 0 differ\n{PROVES}\n", "")
             status, said, _ = palqytun("replay", str(SHOP), "--db", self.url, "--all")
             assert status == 0 and "Shop/order: 1 of 1 ended journals are those of this code\n" in said and "\n3 journals are replayed, 0 differ\n" in said
-            assert palqytun("invocations", "resume", waits["invocation"], "--db", self.url)[0] == 2
-            assert palqytun("invocations", "cancel", waits["invocation"], "--db", self.url)[0] == 0
+            assert spoken.palqytun("invocations", "resume", waits["invocation"], "--db", self.url)[0] == 2
+            assert spoken.palqytun("invocations", "cancel", waits["invocation"], "--db", self.url)[0] == 0
             assert it.ask(f"/-/invocations/{waits['invocation']}/result?wait=600")[0] == 409
-        assert palqytun("invocations", "purge", "--older", "0", "--by", "ann", "--db", self.url)[1] == "3 invocations are purged\n"
-        assert palqytun("invocations", "purge", "--older", "0", "--db", self.url)[1] == "0 invocations are purged\n"
-        audit = palqytun("audit", "--most", "1", "--db", self.url)[1]
+        assert spoken.palqytun("invocations", "purge", "--older", "0", "--by", "ann", "--db", self.url)[1] == "3 invocations are purged\n"
+        assert spoken.palqytun("invocations", "purge", "--older", "0", "--db", self.url)[1] == "0 invocations are purged\n"
+        audit = spoken.palqytun("audit", "--most", "1", "--db", self.url)[1]
         assert "ann" in audit and "purge" in audit and "3 invocations that ended more than 0 s before" in audit
-        assert palqytun("invocations", "list", "--db", self.url)[1] == ""
-        status, _, said = palqytun("invocations", "inspect", "none", "--db", self.url)
+        assert spoken.palqytun("invocations", "list", "--db", self.url)[1] == ""
+        status, _, said = spoken.palqytun("invocations", "inspect", "none", "--db", self.url)
         assert (status, said) == (2, "palqytun: there is no invocation none\n")
 
 

@@ -26,3 +26,23 @@ pub fn deep(alloc: Global, kind: FutureKind) -> Result<UnresolvedFuture, AllocEr
     }
     Ok(tree)
 }
+
+/// Each kind in its turn.
+fn kind_at(level: usize) -> FutureKind {
+    match level % 5 {
+        0 => FutureKind::FirstCompleted,
+        1 => FutureKind::AllCompleted,
+        2 => FutureKind::FirstSucceededOrAllFailed,
+        3 => FutureKind::AllSucceededOrFirstFailed,
+        _ => FutureKind::Unknown,
+    }
+}
+
+/// The same of all kinds in turn.
+pub fn deep_of_all_kinds(alloc: Global) -> Result<UnresolvedFuture, AllocError> {
+    let mut tree = UnresolvedFuture::Single(NotificationHandle(17));
+    for level in 0..DEPTH {
+        tree = around(alloc, kind_at(level), tree)?;
+    }
+    Ok(tree)
+}

@@ -1,10 +1,10 @@
 //! Tries of deep trees, and what is sent of them.
-use crate::trees::deep::deep;
+use crate::trees::deep::deep_of_all_kinds;
 use crate::trees::rows::{arrive, map, mapped};
 use await_trees::UnresolvedFuture;
 use await_tries::{Residue, Resolution, future_of, list_handles, try_future};
 use bytes::Bytes;
-use journal_protocol::{Future, FutureKind, SignalDelivery};
+use journal_protocol::{Future, SignalDelivery};
 use plain::Fault;
 use std::alloc::{AllocError, Global};
 use std::process::Abort;
@@ -100,15 +100,11 @@ fn assert_tried(rt: &impl Abort, alloc: Global, tree: &UnresolvedFuture) -> Resu
     held
 }
 
-fn assert_deep(rt: &impl Abort, alloc: Global, kind: FutureKind) -> Result<(), Fail> {
-    let tree = deep(alloc, kind)?;
-    let held = assert_tried(rt, alloc, &tree);
-    drop(tree);
-    held
-}
-
+/// One tree that has all kinds of nodes: each try of a million nodes takes seconds.
 #[test]
 fn deep_trees_are_tried_and_sent(rt: HostRuntime) -> Result<(), Fail> {
-    assert_deep(&rt, rt.alloc(), FutureKind::Unknown)?;
-    assert_deep(&rt, rt.alloc(), FutureKind::AllCompleted)
+    let tree = deep_of_all_kinds(rt.alloc())?;
+    let held = assert_tried(&rt, rt.alloc(), &tree);
+    drop(tree);
+    held
 }
