@@ -21,6 +21,7 @@ import { serves } from './unserved';
 const SUSPECT = 2; // attempts in a row that were lost with their workers: then it is claimed alone
 const MOST_LOST = 5; // and then it isn't claimed any more
 const ALONE = 1; // seconds for which one that may end its worker is alone with it
+const TIMERS = 1000; // that one transaction fires, by the statement
 const HANDED_OUT = 1 << 18; // bytes of a key's values that an attempt is handed
 
 /** Whose claims these are. */
@@ -38,22 +39,28 @@ export interface Look {
   readonly claims: Claim[];
   /** It took all that it might, so there may be more. */
   hasMore: boolean;
+  /** So it is for suspended ones for which something came. */
+  hasMoreCome: boolean;
   /** When something is due, in seconds since the epoch. */
   nextDue: number | null;
   /** How late timers have fired, and ready invocations were claimed, in seconds. */
   readonly lags: number[];
   readonly delays: [claim: Claim, seconds: number][];
-  /** There may be more that waited for a worker which serves it. */
-  servesMore: boolean;
+  /** There may be more of what only a whole look looks for. */
+  isPartial: boolean;
+  /** Those that have an attempt here, and for which something came: a word may have been missed. */
+  readonly reached: string[];
 }
 
 type Row = readonly unknown[];
 
 async function fires(to: Statements, found: Look): Promise<void> {
-  for (const [invocation, completes, due] of await to.rows('timers', { now: to.now })) {
+  const rows = await to.rows('timers', { now: to.now });
+  for (const [invocation, completes, due] of rows) {
     found.lags.push(to.now - (due as number));
     await deliver(to, String(invocation), frames.completion(completes as number, VOID()));
   }
+  if (rows.length === TIMERS) found.nextDue = to.now;
 }
 
 /** Cancellations reach those that wait for no inbox, and that came to wait while these were sent. */
@@ -70,7 +77,7 @@ export interface Asked {
 
 /** A look, as it goes on. */
 class Looking {
-  readonly found: Look = { claims: [], hasMore: false, nextDue: null, lags: [], delays: [], servesMore: false };
+  readonly found: Look = { claims: [], hasMore: false, hasMoreCome: false, nextDue: null, lags: [], delays: [], isPartial: false, reached: [] };
 
   constructor(readonly to: Statements, readonly claimer: Claimer, private readonly asked: Asked, private readonly live: ReadonlySet<string>, private readonly room: number) {}
 
@@ -96,12 +103,11 @@ class Looking {
     const before = found.claims.length;
     const left = (): number => Math.min(this.left, most - (found.claims.length - before));
     if (handlers.length === 0 || left() <= 0) return;
-    for (const row of this.hasCome ? await to.rows('suspended', { ...own, most: left() }) : []) {
-      if (await this.isWoken(row[0], row[4], row[5])) await this.claims(service, row, false);
-    }
+    const room = left();
+    const suspended = this.hasCome ? await to.rows('suspended', { ...own, most: room }) : [];
+    await this.woken(suspended, room, 4, (row) => this.claims(service, row, false));
     const ready = left() > 0 ? await to.rows('ready', { ...own, now: to.now, most: left() }) : [];
     for (const row of ready) await this.claims(service, row, true);
-    found.hasMore ||= ready.length > 0 && this.left <= 0;
   }
 
   /** Those of a handler that has a limit. Its row is kept until the commit, so two workers don't count at one time. */
@@ -116,15 +122,29 @@ class Looking {
     const { to, found, claimer } = this;
     const it = await Room.of(to, queue, claimer.worker, this.left);
     const own = { worker: claimer.worker, code: claimer.code, paths: handlersOf(claimer.services).map(pathOf) };
-    const suspended = this.hasCome && it.free > 0 ? await to.rows('queue-suspended', { queue: queue.name, ...own, most: it.free }) : [];
-    for (const row of suspended as unknown as readonly Queued[]) {
-      if ((await this.isWoken(row[0], row[6], row[7])) && it.takes(row[5], false)) await this.claims(row[4], row, false);
-    }
+    const room = it.free;
+    const suspended = this.hasCome && room > 0 ? await to.rows('queue-suspended', { queue: queue.name, ...own, most: room }) : [];
+    await this.woken(suspended as unknown as readonly Queued[], room, 6, async (row) => {
+      if (it.takes(row[5], false)) await this.claims(row[4], row, false);
+    });
     for (const row of await again(to, it, own)) await this.claims(row[4], row, true);
     const begins = await first(to, it, own);
     for (const row of begins.rows) await this.claims(row[4], row, true);
     found.hasMore ||= begins.hasMore;
     if (it.later !== null) found.nextDue = Math.min(it.later, found.nextDue ?? Infinity);
+  }
+
+  /** Claims those of some suspended ones that their inboxes wake. If these are as many as were asked for, there may be more; but if all of these stay as they
+   * are, a look at once would find the same. `at` is the place of a row's suspension. */
+  async woken<R extends Row>(rows: readonly R[], most: number, at: number, claims: (row: R) => Promise<void>): Promise<void> {
+    const before = this.found.claims.length;
+    let seen = 0;
+    for (const row of rows) {
+      if (await this.isWoken(row[0], row[at], row[at + 1])) await claims(row);
+      else seen += 1;
+    }
+    const hasMoved = this.found.claims.length > before || seen > 0;
+    this.found.hasMoreCome ||= rows.length === most && hasMoved;
   }
 
   /** Whether its inbox wakes a suspended one. One that it doesn't wake isn't looked at again for that. */
@@ -137,11 +157,19 @@ class Looking {
 
   /** Those whose worker isn't alive. They are counted as running already, so no limit keeps them out. */
   async orphaned({ name: service, handlers }: About): Promise<void> {
-    if (this.left <= 0) return;
-    const rows = await this.to.rows('orphaned', { service, handlers: [...handlers.keys()], code: this.claimer.code, most: this.left });
+    const [room, before] = [this.left, this.found.claims.length];
+    if (room <= 0) return;
+    const rows = await this.to.rows('orphaned', { service, handlers: [...handlers.keys()], code: this.claimer.code, most: room });
     for (const row of rows) {
       if (!this.live.has(String(row[0])) && (await mayGoOn(this.to, this.claimer, service, row))) await this.claims(service, row, false);
     }
+    this.found.isPartial ||= rows.length === room && this.found.claims.length > before; // if none may go on yet, they are looked at by and by
+  }
+
+  /** Those that have an attempt here, and for which something came. Each word goes to the worker that had the lease as it was sent. */
+  async reached(): Promise<void> {
+    const rows = this.live.size === 0 ? [] : await this.to.rows('reached', { ids: [...this.live] });
+    this.found.reached.push(...rows.map(([id]) => String(id)));
   }
 }
 
@@ -150,8 +178,9 @@ export async function look(to: Statements, claimer: Claimer, asked: Asked, live:
   const it = new Looking(to, claimer, asked, live, room);
   const { found } = it;
   const handlers = handlersOf(claimer.services);
-  if (asked.isWhole) found.servesMore = await serves(to, claimer.services);
+  if (asked.isWhole) found.isPartial = await serves(to, claimer.services);
   if (asked.isWhole) await reaches(to);
+  if (asked.isWhole) await it.reached();
   if (asked.isDue) await fires(to, found);
   if (asked.isDue) await endLate(to);
   for (const about of claimer.services.values()) {
@@ -164,6 +193,8 @@ export async function look(to: Statements, claimer: Claimer, asked: Asked, live:
   if (asked.isWhole) for (const about of claimer.services.values()) await it.orphaned(about);
   const next = asked.isDue ? (((await to.rows('next', { now: to.now }))[0]?.[0] ?? null) as number | null) : null;
   if (next !== null) found.nextDue = Math.min(next, found.nextDue ?? Infinity);
+  found.hasMore ||= found.hasMoreCome || it.left <= 0;
+  found.hasMoreCome ||= it.left <= 0 && it.hasCome; // those after the last one weren't looked at
   return found;
 }
 

@@ -48,6 +48,7 @@ interface Given {
   readonly run: number;
   readonly completes: number;
   readonly seqs: readonly number[];
+  readonly ids: readonly string[];
   readonly status: Status;
   readonly how: string;
   readonly suspension: Uint8Array;
@@ -430,13 +431,19 @@ const STATEMENTS: Readonly<Record<Exclude<StatementName, 'now'>, Does>> = {
     const due = to.times().filter((at) => at > it.now);
     return rows([[due.length === 0 ? null : Math.min(...due)]]);
   },
-  timers: (to, it) => rows(to.timers.take((one) => one.due <= it.now).sort((one, other) => one.due - other.due).map((one) => [one.invocation, one.completes, one.due])),
+  timers: (to, it) => {
+    const due = to.timers.where((one) => one.due <= it.now).sort((one, other) => one.due - other.due).slice(0, 1000);
+    const those = new Set(due.map((one) => one.seq));
+    to.timers.take((one) => those.has(one.seq));
+    return rows(due.map((one) => [one.invocation, one.completes, one.due]));
+  },
   ready: (to, it) => rows(to.free(to.candidates(it, 'ready').filter((one) => one.queue === null), it.now).slice(0, it.most).map((one) => candidate(one))),
   suspended: (to, it) => {
     const reached = to.reached();
     return rows(to.candidates(it, 'suspended').filter((one) => one.queue === null && reached.has(one.id)).slice(0, it.most).map((one) => candidate(one, one.suspension, one.shielded)));
   },
   inbox: (to, it) => rows(to.arrived(it.id)),
+  reached: (to, it) => rows([...to.reached()].filter((id) => it.ids.includes(id)).map((id) => [id])),
   seen: (to, it) => {
     for (const one of to.inbox.where(({ seq }) => it.seqs.includes(seq))) to.inbox.put(one.seq, { ...one, fresh: false });
     return changed(it.seqs.length);

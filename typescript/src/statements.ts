@@ -221,6 +221,9 @@ export const STATEMENTS = {
   'wait': [
     { text: "INSERT INTO waiters(invocation, waiter, completes) VALUES ($1::text, $2::text, $3::bigint)", names: ["invocation", "id", "completes"] },
   ],
+  'reached': [
+    { text: "SELECT DISTINCT invocation FROM inbox WHERE fresh=1 AND invocation=ANY($1::text[])", names: ["ids"] },
+  ],
   'delivered': [
     { text: "DELETE FROM inbox WHERE invocation=$1::text AND seq=ANY($2::bigint[])", names: ["id", "seqs"] },
   ],

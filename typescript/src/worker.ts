@@ -359,6 +359,7 @@ export class Worker implements Host {
     }
     this.#looked(found);
     if (found.nextDue !== null && room > 0) this.#wakeAt(found.nextDue);
+    else if (found.nextDue !== null) this.#dueAt = Math.min(this.#dueAt, found.nextDue); // it looks once there is some room
     await this.#until();
   }
 
@@ -366,12 +367,11 @@ export class Worker implements Host {
     for (const it of found.lags) this.meter.fired(it);
     for (const [claim, seconds] of found.delays) this.meter.claimed(claim.service, claim.handler, seconds);
     for (const it of found.claims) this.#begin(it);
+    for (const id of found.reached) this.#live.get(id)?.poke();
     this.#hasMore = found.hasMore;
-    if (found.servesMore) {
-      this.#wholeAt = 0;
-      this.#wake(0);
-    }
-    if (found.hasMore && this.#live.size < this.#options.limit) this.#wake(0);
+    this.#hasCome ||= found.hasMoreCome;
+    if (found.isPartial) this.#wholeAt = 0;
+    if ((found.hasMore || found.isPartial) && this.#live.size < this.#options.limit) this.#wake(0);
   }
 
   /** Until the time of the next look, which words bring forward; or until the worker stops, or its database is lost. */

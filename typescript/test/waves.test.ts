@@ -1,0 +1,116 @@
+// Much that comes at once, and words that are missed: a worker goes on with all of it, and doesn't wait for its poll in between.
+
+import assert from 'node:assert/strict';
+import { test } from 'node:test';
+import { frames } from 'palqytun';
+import { Worker, main, race, service, workflow } from '@palqytun/sdk';
+import type { AnyService, ServiceContext, SharedWorkflowContext, WorkerOptions, WorkflowContext } from '@palqytun/sdk';
+import { LONG, asked, stage, until } from './cluster';
+import { create } from '../invocations';
+import { Memory } from '../memory';
+import { JSON_CODEC } from '../sealing';
+import { servicesOf } from '../services';
+
+/** A worker on a store of the test's, which the declarations of the package leave out. */
+const InMemory = Worker as unknown as new (options: WorkerOptions, inside: { place: Memory }) => Worker & { readonly live: number };
+const MANY = 100;
+const FAR = 3_600_000; // milliseconds
+
+const runs: (() => void)[] = [];
+const waits = service('Waits', {
+  sleeps: async (ctx: ServiceContext, _: null): Promise<null> => ctx.sleep(FAR),
+  works: async (ctx: ServiceContext, _: null): Promise<unknown> => ctx.run('works', () => new Promise<void>((done) => runs.push(done))),
+  hears: async (ctx: ServiceContext, _: null): Promise<unknown> => race([ctx.run('long', () => new Promise<void>((done) => runs.push(done))), ctx.signal<string>('go')]),
+});
+const flow = workflow('Flow', {
+  main: main(async (ctx: WorkflowContext, _: null): Promise<null> => ctx.promise<null>('never').value()),
+  awaits: async (ctx: SharedWorkflowContext, _: null): Promise<null> => ctx.promise<null>('go').value(),
+  goes: async (ctx: SharedWorkflowContext, _: null): Promise<null> => ctx.promise<null>('go').resolve(),
+});
+
+/** A worker in memory that doesn't look by itself, until the end of a test. */
+async function inMemory(services: readonly AnyService[], limit: number, does: (memory: Memory, send: (path: string, many: number, key?: string) => Promise<void>) => Promise<void>): Promise<void> {
+  const memory = new Memory();
+  const settings = { url: 'postgresql://in-memory', version: 'test', idle: 0, poll: FAR, grace: 1000, stuck: 0, limit, log: { level: 'error' as const } };
+  const worker = new InMemory({ ...settings, services }, { place: memory });
+  const running = worker.run();
+  const maker = { services: servicesOf(services), codec: JSON_CODEC };
+  let number = 0;
+  const send = async (path: string, many: number, key = ''): Promise<void> => {
+    const [name = '', handler = ''] = path.split('/');
+    const rest = { seed: 1n, service: name, handler, key, argument: Buffer.alloc(0), headers: [], idempotencyKey: null, due: null, parent: null, trace: null };
+    await memory.beside().transact(async (to) => {
+      for (let at = 0; at < many; at++) await create(to, maker, { id: `inv_${(number += 1)}`, ...rest });
+    });
+  };
+  try {
+    await does(memory, send);
+  } finally {
+    worker.stop();
+    for (const done of runs.splice(0)) done();
+    await running;
+  }
+}
+
+const count = (memory: Memory, status: string): number => memory.tables.invocations.where((it) => it.status === status).length;
+
+test('sleeps that end at one moment', { timeout: LONG }, async () => {
+  await inMemory([waits], 500, async (memory, send) => {
+    await send('Waits/sleeps', MANY);
+    await until(() => count(memory, 'suspended') === MANY);
+    memory.skipped += 2 * FAR;
+    memory.say('ready');
+    await until(() => count(memory, 'done') === MANY);
+  });
+});
+
+test('one promise for which many wait', { timeout: LONG }, async () => {
+  await inMemory([flow], 500, async (memory, send) => {
+    await send('Flow/awaits', MANY, 'one');
+    await until(() => count(memory, 'suspended') === MANY);
+    await send('Flow/goes', 1, 'one');
+    await until(() => count(memory, 'done') === MANY + 1);
+  });
+});
+
+test('what is ready while the worker has no room, and looks', { timeout: LONG }, async () => {
+  await inMemory([waits], 10, async (memory, send) => {
+    await send('Waits/works', 50);
+    await until(() => runs.length === 10);
+    memory.say('ready'); // it looks, and has no room
+    await new Promise<void>((done) => setTimeout(done, 50));
+    await until(() => {
+      for (const done of runs.splice(0)) done();
+      return count(memory, 'done') === 50;
+    });
+  });
+});
+
+test('those of a worker that is lost', { timeout: LONG }, async () => {
+  await inMemory([waits], 500, async (memory, send) => {
+    await memory.beside().transact(async (to) => {
+      for (let at = 0; at < MANY; at++) {
+        await create(to, { services: servicesOf([waits]), codec: JSON_CODEC }, {
+          id: `inv_lost${at}`, seed: 1n, service: 'Waits', handler: 'sleeps', key: '', argument: Buffer.alloc(0), headers: [], idempotencyKey: null, due: null, parent: null, trace: null,
+        }); // prettier-ignore
+        await to.change('lease', { id: `inv_lost${at}`, epoch: 0, worker: 'lost', code: 'test', now: to.now });
+      }
+    });
+    await send('Waits/sleeps', 1);
+    await until(() => count(memory, 'suspended') === MANY + 1);
+  });
+});
+
+test('what comes for an attempt by a word that is missed', { timeout: LONG }, async () => {
+  const on = await stage([waits], { idle: FAR });
+  try {
+    const sent = await on.client.send(waits.hears, null);
+    await until(() => runs.length === 1);
+    // as of a sender whose word went to the worker that had the lease before
+    await asked('INSERT INTO inbox(invocation, frame) VALUES ($1, $2)', sent.id, Buffer.from(frames.namedSignal('go', frames.valueFrame(Buffer.from('"went"')))));
+    assert.equal(await sent.result(LONG / 2), 'went');
+  } finally {
+    for (const done of runs.splice(0)) done();
+    await on.end();
+  }
+});
