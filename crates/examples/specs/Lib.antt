@@ -1,4 +1,5 @@
 pub mod Approval
+pub mod Nap
 pub mod Race
 pub mod Reminder
 pub mod Retry

@@ -1,6 +1,6 @@
 //! What no row can say of scripts: of `vmscript` and `vmrounds`, readers and writers that fail, arguments with which nothing is read, and
 //! the forms that hints show; of what crash tests are written with, worlds that a test describes, and reports
-//! that it asks; and of the handlers of `examples`.
+//! that it asks; of the handlers of `examples`; and of the check of a stored journal.
 #![tactic(auto)]
 
 #[cfg(test)]
@@ -11,6 +11,8 @@ mod crash_worlds;
 mod example_crashes;
 #[cfg(test)]
 mod forms;
+#[cfg(test)]
+mod replay_checks;
 #[cfg(test)]
 mod reports;
 #[cfg(test)]
