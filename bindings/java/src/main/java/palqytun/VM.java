@@ -429,7 +429,7 @@ public final class VM implements AutoCloseable {
 
     /** In what the call isn't as recorded that has failed the VM: it is this one, if none had failed it, and the error has this text and related command. */
     private Difference differs(String text, VMException.Related related, Replayed.Call call, boolean unstable) {
-        if (!isRefused) {
+        if (!isRefused && replayed != null) { // there is none yet if no VM could be made
             isRefused = true;
             difference = replayed.difference(text, related, this::lastIndex, call, unstable);
         }
