@@ -2,7 +2,7 @@
 
 from __future__ import annotations
 
-from tools.simulation.model import Given, Outcome, Setting, attempt
+from tools.simulation.model import Given, Outcome, Setting, attempt, change
 from tools.simulation.program import Bad
 
 from .calls import check_calls, check_keys, check_submits
@@ -14,13 +14,30 @@ from .steps import step_of
 VERSION = 7
 
 
-def told(script: Script, it: Invocation) -> Outcome:
+def earlier(report: Report, script: Script, it: Invocation) -> list[Invocation]:
+    """The earlier invocations of its key, if both are of exclusive handlers of one service."""
+    if not script.handlers[it.names].exclusive:
+        return []
+    others = [other for other in report.invocations[: it.number] if other.key == it.key and other.names[0] == it.names[0]]
+    return [other for other in others if script.handlers[other.names].exclusive]
+
+
+def handed(report: Report, script: Script, it: Invocation) -> dict[str, str]:
+    """The state that those before it have left, one after another."""
+    state = dict[str, str]()
+    for other in earlier(report, script, it):
+        for command in other.commands():
+            change(state, command.text)
+    return state
+
+
+def told(report: Report, script: Script, it: Invocation) -> Outcome:
     """What an attempt of its handler has to do by what its journal has: the commands are those of an attempt that nothing stops."""
     plan = [step_of(line) for line in script.handlers[it.names].steps]
     parameter = it.entries[0].removeprefix("Input").removeprefix(' value="').removesuffix('"')
     notes = [(id, result) for _, id, result in it.notes()]
     recorded = [command.text for command in it.commands()]
-    outcome = attempt(plan, Setting(VERSION, {}, "calls", parameter), Given(recorded, None, notes))
+    outcome = attempt(plan, Setting(VERSION, handed(report, script, it), "calls", parameter), Given(recorded, None, notes))
     outcome.commands = up_to_output(outcome.commands)
     return outcome
 
@@ -31,9 +48,9 @@ def up_to_output(commands: list[str]) -> list[str]:
     return commands[: ends + 1]
 
 
-def check_commands(script: Script, it: Invocation) -> None:
+def check_commands(report: Report, script: Script, it: Invocation) -> None:
     """The commands of its journal begin those of an attempt that nothing stops."""
-    found, wanted = [command.text for command in it.commands()], told(script, it).commands
+    found, wanted = [command.text for command in it.commands()], told(report, script, it).commands
     if wanted[: len(found)] != found:
         raise Bad(f"invocation {it.number} has the commands {found}, and not {wanted}")
 
@@ -46,14 +63,6 @@ def check_result(it: Invocation) -> None:
         raise Bad(f"invocation {it.number} has the result {it.result}, and its output is {result}")
     if outputs and outputs[0].at != len(it.entries) - 1:
         raise Bad(f"invocation {it.number} has entries after its output")
-
-
-def earlier(report: Report, script: Script, it: Invocation) -> list[Invocation]:
-    """The earlier invocations of its key, if both are of exclusive handlers of one service."""
-    if not script.handlers[it.names].exclusive:
-        return []
-    others = [other for other in report.invocations[: it.number] if other.key == it.key and other.names[0] == it.names[0]]
-    return [other for other in others if script.handlers[other.names].exclusive]
 
 
 def check_turn(report: Report, script: Script, it: Invocation) -> None:
@@ -76,7 +85,7 @@ def check_report(script: Script, report: Report) -> None:
     check_keys(report)
     for it in report.invocations:
         check_result(it)
-        check_commands(script, it)
+        check_commands(report, script, it)
         check_completions(report, script, it)
         check_waits(it)
         check_turn(report, script, it)
@@ -98,7 +107,7 @@ def check_settled(script: Script, report: Report) -> None:
     for it in report.invocations:
         if it.result is not None or it.at > script.clock or any(other.result is None for other in earlier(report, script, it)):
             continue
-        found, wanted = [command.text for command in it.commands()], told(script, it).commands
+        found, wanted = [command.text for command in it.commands()], told(report, script, it).commands
         if found != wanted:
             raise Bad(f"invocation {it.number} has the commands {found}, and could have {wanted}")
         if waits := due(report, script, it):

@@ -32,6 +32,8 @@ TARGETS = (
 """Each calls those after it alone, so that every tree of calls ends."""
 NOBODY = Target("No", "body", False)
 KEYS = ("", "", "k", "l")
+NAMES = ("a", "b")
+"""Of the state of a key."""
 
 
 @dataclass
@@ -121,8 +123,22 @@ class Steps:
             case _:
                 self.add(f"completed {self.handle()}")
 
+    def state(self) -> None:
+        name = self.dice.random.choice(NAMES)
+        match self.dice.random.randrange(8):
+            case 0 | 1 | 2:
+                self.add(f'get "{name}"', 1)
+            case 3:
+                self.add("keys", 1)
+            case 4 | 5:
+                self.add(f'set "{name}" "{self.dice.word()}"')
+            case 6:
+                self.add(f'clear "{name}"')
+            case _:
+                self.add("clear_all")
+
     def step(self) -> None:
-        match self.dice.random.randrange(12):
+        match self.dice.random.randrange(14):
             case 0 | 1 | 2:
                 self.call()
             case 3:
@@ -133,6 +149,8 @@ class Steps:
                 self.add(f'sleep "" {self.dice.time()}', 1)
             case 8:
                 self.wait()
+            case 9 | 10:
+                self.state()
             case _:
                 self.use()
 

@@ -5,7 +5,7 @@ from __future__ import annotations
 import re
 from functools import lru_cache
 
-from tools.simulation.plan import Action, Awaits, Ends, Looks, Makes, Step, Takes, Tree, Waits
+from tools.simulation.plan import Action, Awaits, Ends, Looks, Makes, Reads, Step, Takes, Tree, Waits
 from tools.simulation.program import Bad
 
 from .words import fields_of, unquoted, words_of
@@ -76,13 +76,32 @@ def action_of(words: list[str]) -> Action:
             return sends(words[1], "index(1)", "void")
         case "write_output":
             return Makes((f"Output result={result_of(words[1:])}",))
+        case "set" | "clear" | "clear_all":
+            return changing_of(words)
         case _:
             return waiting_of(words)
 
 
+def changing_of(words: list[str]) -> Makes:
+    """A step that changes the state of its key."""
+    match words:
+        case ["set", key, value]:
+            return Makes((f"SetState key={key}{field('value', value)}",), sets=(unquoted(key), unquoted(value)))
+        case ["clear", key]:
+            return Makes((f"ClearState key={key}",), sets=(unquoted(key), None))
+        case ["clear_all"]:
+            return Makes(("ClearAllState",), clears_all=True)
+        case _:
+            raise Bad(f"{words} is no step that the rules know")
+
+
 def waiting_of(words: list[str]) -> Action:
-    """A step without a command."""
+    """A step without a command, or a read of the state."""
     match words[0]:
+        case "get":
+            return Reads(unquoted(words[1]))
+        case "keys":
+            return Reads(None)
         case "awakeable":
             return Waits(None)
         case "signal":

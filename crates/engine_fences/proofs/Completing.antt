@@ -48,7 +48,7 @@ use Rattle.engines.proofs.Growing.{some_in}
 use Rattle.engines.proofs.Replaying.{all_replay, none_replays, one_replays}
 use Rattle.engines.proofs.Storing.{IsUndone, IsUndoneId, input_note, input_quiet, input_unknown, stored_facts}
 use Rattle.engine_fences.specs.Completions.{BringsResult, CompletionsAreAskedFor, CompletionsAreOwn, EachCompletion, IdsRise, IsAskedFor, IsOfOwnCommand}
-use Rattle.engine_fences.proofs.Events.{AllHold, Any, Holds, IsNew, any_may, event_holds, hold_then, none_holds}
+use Rattle.engine_fences.proofs.Events.{AllHold, Always, Any, Holds, IsNew, any_may, event_holds, hold_then, none_holds}
 use Rattle.engine_fences.proofs.Carriers.{CompletesBy, carrier, command_waited, completes_so, delivered_kind, delivered_own, proposed_kind, proposed_own, waited_command, waits_so}
 use Rattle.engine_fences.proofs.Stores.{store_so}
 
@@ -267,11 +267,11 @@ entry_answered {H} m m' asks f d a = happened_answered f (event.Store 1) m m' d.
 kept_answered : {H : Type 0} (a b : Invocation H) → b.member ≡ a.member → StaysAnswered a b
 kept_answered a b same all m is = all m (sym same ∙ is)
 
-answered_stays : {H : Type 0} → Holds (StaysAnswered {H = H}) Any
+answered_stays : {H : Type 0} → Holds (StaysAnswered {H = H}) Any Always
 answered_stays {H} = record {
   same = λ it all. all;
   next = λ a b c f g all. g (f all);
-  goes = λ it m m' was journal waits ids options. rounds_answered it m m' was (λ a. options_answered m m' options (same_answered (ReplaysAndQueues m.course.setting.options) m.course.journal m'.course.journal m.waiting m'.waiting m.next m'.next journal waits ids a));
+  goes = λ it m m' was journal waits ids options on. rounds_answered it m m' was (λ a. options_answered m m' options (same_answered (ReplaysAndQueues m.course.setting.options) m.course.journal m'.course.journal m.waiting m'.waiting m.next m'.next journal waits ids a));
   gets = λ it m s was. rounds_answered it m (with_signal s.signal s.brings m) was (λ a. record { book = book_signal m.course.journal m.waiting m.next s.signal s.brings a.book; asked = a.asked; own = a.own; ids = a.ids });
   comes = λ it m m' at w b f was going there may d. rounds_answered it m m' was (came_answered m m' at w b f there d);
   stores = λ it m m' asks f was going d. rounds_answered it m m' was (entry_answered m m' asks f d);
@@ -282,8 +282,8 @@ answered_stays {H} = record {
 -- ---- all events
 
 all_answered : {H : Type 0} (meaning : H → Meaning) (es : List Happening) (old new : Engine H) → AllHappen meaning es old new → AllHold StaysAnswered old new
-all_answered meaning [] old new d = none_holds StaysAnswered Any answered_stays old new d
-all_answered meaning (e ∷ es) old new (mid, first, more) = hold_then StaysAnswered Any answered_stays old mid new (event_holds StaysAnswered Any answered_stays meaning e old mid (any_may answered_stays old e) first) (all_answered meaning es mid new more)
+all_answered meaning [] old new d = none_holds StaysAnswered Any Always answered_stays old new d
+all_answered meaning (e ∷ es) old new (mid, first, more) = hold_then StaysAnswered Any Always answered_stays old mid new (event_holds StaysAnswered Any Always answered_stays meaning e old mid (any_may answered_stays old e) first) (all_answered meaning es mid new more)
 
 new_answered : {H : Type 0} (m : MemberView H) → IsNew m → AreAnswered m
 new_answered m n = same_answered (ReplaysAndQueues m.course.setting.options) (entry_of_input n.parameter ∷ []) m.course.journal [] m.waiting 0 m.next n.journal n.waiting n.next (first_answered (ReplaysAndQueues m.course.setting.options) n.parameter n.whole)

@@ -15,7 +15,6 @@ use Rattle.engine_inboxes.proofs.Coming.{none_some}
 use Rattle.world_rounds.specs.declared.types.Event.{Event}
 use Rattle.world_rounds.specs.declared.types.Event.TheVariants as event
 use Rattle.world_rounds.specs.declared.types.Setting.{Setting}
-use Rattle.world_rounds.specs.Course.{BeginsRound, CourseView, HappensTo}
 use Rattle.engines.specs.declared.engine.Engine.{Engine}
 use Rattle.engines.specs.declared.engine.Invocation.{Invocation}
 use Rattle.engine_inboxes.specs.declared.order.Begun.{Begun}
@@ -26,21 +25,30 @@ use Rattle.engines.specs.Beginnings.{IsWholeInput, entry_of_input}
 use Rattle.engines.specs.Engines.{AddsCallee, BeginsIf, ChangesAt, ChangesOne, DeliversIf, DeliversTo, DeliversUnless, DoesEffect, EndsWith, FindsOrMakes, GoesIn, HappeningDoes, MemberGoes, NoneAt, OrdersOf, PerformsIf, SendsToPlace, StoresIn, StoresInMember, StoresUnless, brought_at, brought_in, brought_of, new_member, order_of, stopped_in, whole_round}
 use Rattle.engine_inboxes.specs.Targets.{handler_named}
 use Rattle.engines.specs.Lookups.{brought_for, id_of_place, may_begin, place_of, same_as}
+use Rattle.engines.specs.Between.{HasBegun}
+use Rattle.engines.specs.HandedOn.{BeginsHanded, base_at}
 use Rattle.engines.specs.Members.{Acts, Delivers, GoesBy, MemberView, StoresNextEntry, stopped, with_signal}
 use Rattle.engines.proofs.Among.{get_left, get_pushed}
-use Rattle.engines.proofs.Beginnings.{happens_setting}
+use Rattle.engines.proofs.Beginnings.{begins_leaves}
 use Rattle.engines.proofs.Growing.{Seen, seen_one, some_in}
+use Rattle.engines.proofs.Keeping.{acts_begun, stopped_begun}
+use Rattle.engines.proofs.Replaying.{acts_same}
 use Rattle.engines.proofs.Storing.{own_leaves}
 
 -- an invocation with other rounds
 abbrev pub with_rounds : {H : Type 0} → Invocation H → MemberView H → Invocation H
 with_rounds it m = record it { member = Some m }
 
--- What is so of an invocation before and after each of its changes. A delivery may have a premise, by what waits and the place of what comes.
-pub record Holds {H : Type 0} (P : Invocation H → Invocation H → Type 0) (May : MemberView H → ℕ → Type 0) : Type 0 where
+-- Its attempts are made with the same; one lives or it has stored something only if so it was.
+abbrev pub GoesOn : {H : Type 0} → MemberView H → MemberView H → Type 0
+GoesOn m m' = (m'.course.setting ≡ m.course.setting) × (HasBegun m' → HasBegun m)
+
+-- What is so of an invocation before and after each of its changes. A delivery may have a premise, by what waits and the place of what comes; and
+-- so may a begin.
+pub record Holds {H : Type 0} (P : Invocation H → Invocation H → Type 0) (May : MemberView H → ℕ → Type 0) (MayBegin : Type 0) : Type 0 where
   pub same : (it : Invocation H) → P it it
   pub next : (a b c : Invocation H) → P a b → P b c → P a c
-  pub goes : (it : Invocation H) (m m' : MemberView H) → it.member ≡ Some m → m'.course.journal ≡ m.course.journal → m'.waiting ≡ m.waiting → m'.next ≡ m.next → m'.course.setting.options ≡ m.course.setting.options → P it (with_rounds it m')
+  pub goes : (it : Invocation H) (m m' : MemberView H) → it.member ≡ Some m → m'.course.journal ≡ m.course.journal → m'.waiting ≡ m.waiting → m'.next ≡ m.next → m'.course.setting.options ≡ m.course.setting.options → GoesOn m m' ⊎ MayBegin → P it (with_rounds it m')
   pub gets : (it : Invocation H) (m : MemberView H) (s : Sent) → it.member ≡ Some m → P it (with_rounds it (with_signal s.signal s.brings m))
   pub comes : (it : Invocation H) (m m' : MemberView H) (at : ℕ) (w : Waiting) (b : Brought) (f : Meaning) → it.member ≡ Some m → is_some it.ended ≡ false → slice_get m.waiting at ≡ Some w → May m at → Delivers at b f m m' → P it (with_rounds it m')
   pub stores : (it : Invocation H) (m m' : MemberView H) (asks : Option Effect) (f : Meaning) → it.member ≡ Some m → is_some it.ended ≡ false → StoresNextEntry f m m' asks → P it (with_rounds it m')
@@ -51,11 +59,12 @@ pub record Holds {H : Type 0} (P : Invocation H → Invocation H → Type 0) (Ma
 abbrev pub MayCome : {H : Type 0} → (MemberView H → ℕ → Type 0) → Engine H → ℕ → ℕ → Type 0
 MayCome {H} May e place at = (it : Invocation H) (m : MemberView H) → slice_get e.invocations.items place ≡ Some it → it.member ≡ Some m → May m at
 
--- Its journal is its input, which can be read back, and nothing waits.
+-- Its journal is its input, which can be read back, no attempt lives, and nothing waits.
 pub record IsNew {H : Type 0} (m : MemberView H) : Type 0 where
   pub parameter : List ℕ
   pub whole : IsWholeInput parameter
   pub journal : m.course.journal ≡ entry_of_input parameter ∷ []
+  pub live : m.course.live ≡ None
   pub waiting : m.waiting ≡ []
   pub next : m.next ≡ 0
 
@@ -84,34 +93,53 @@ brought_is {H} e place at it m b was there h = by (slice_get m.waiting at) (sym 
     by None g = absurd (none_some b g)
     by (Some w) g = (w, refl)
 
--- its stored entries, its inbox, what is next and the options of its attempts stay
-abbrev Stays : {H : Type 0} → MemberView H → MemberView H → Type 0
-Stays m m' = (m'.course.journal ≡ m.course.journal) × (m'.waiting ≡ m.waiting) × (m'.next ≡ m.next) × (m'.course.setting.options ≡ m.course.setting.options)
+-- its stored entries, its inbox, what is next and the options of its attempts stay; it goes on, or begins
+abbrev Stays : {H : Type 0} → Type 0 → MemberView H → MemberView H → Type 0
+Stays MayBegin m m' = (m'.course.journal ≡ m.course.journal) × (m'.waiting ≡ m.waiting) × (m'.next ≡ m.next) × (m'.course.setting.options ≡ m.course.setting.options) × (GoesOn m m' ⊎ MayBegin)
 
-options_stay : {H : Type 0} (f : Meaning) (e : Event) (c c' : CourseView H) → HappensTo f e c.live c c' → c'.setting.options ≡ c.setting.options
-options_stay f e c c' h = ap (λ (w : Setting). w.options) (happens_setting f e c.live c c' h)
+-- neither its stored entries nor its inbox change
+acts_leave : {H : Type 0} (f : Meaning) (e : Event) (m m' : MemberView H) → Acts f e m m' → (m'.course.journal ≡ m.course.journal) × (m'.waiting ≡ m.waiting) × (m'.next ≡ m.next)
+acts_leave f (event.Arrive x) m m' h = (ap (λ (z : MemberView _). z.course.journal) h, ap (λ (z : MemberView _). z.waiting) h, ap (λ (z : MemberView _). z.next) h)
+acts_leave f (event.Store n) m m' h = (ap (λ (z : MemberView _). z.course.journal) h, ap (λ (z : MemberView _). z.waiting) h, ap (λ (z : MemberView _). z.next) h)
+acts_leave f (event.Piece n) m m' h = (own_leaves f (event.Piece n) m.course.live m.course m'.course tt h.1, ap (λ (z : MemberView _). z.waiting) h.0, ap (λ (z : MemberView _). z.next) h.0)
+acts_leave f event.Close m m' h = (own_leaves f event.Close m.course.live m.course m'.course tt h.1, ap (λ (z : MemberView _). z.waiting) h.0, ap (λ (z : MemberView _). z.next) h.0)
+acts_leave f event.Step m m' h = (own_leaves f event.Step m.course.live m.course m'.course tt h.1, ap (λ (z : MemberView _). z.waiting) h.0, ap (λ (z : MemberView _). z.next) h.0)
+acts_leave f (event.Steps n) m m' h = (own_leaves f (event.Steps n) m.course.live m.course m'.course tt h.1, ap (λ (z : MemberView _). z.waiting) h.0, ap (λ (z : MemberView _). z.next) h.0)
+acts_leave f (event.RunResult handle exit policy) m m' h = (own_leaves f (event.RunResult handle exit policy) m.course.live m.course m'.course tt h.1, ap (λ (z : MemberView _). z.waiting) h.0, ap (λ (z : MemberView _). z.next) h.0)
 
-acts_keep : {H : Type 0} (f : Meaning) (e : Event) (m m' : MemberView H) → Acts f e m m' → Stays m m'
-acts_keep f (event.Arrive x) m m' h = (ap (λ (z : MemberView _). z.course.journal) h, ap (λ (z : MemberView _). z.waiting) h, ap (λ (z : MemberView _). z.next) h, ap (λ (z : MemberView _). z.course.setting.options) h)
-acts_keep f (event.Store n) m m' h = (ap (λ (z : MemberView _). z.course.journal) h, ap (λ (z : MemberView _). z.waiting) h, ap (λ (z : MemberView _). z.next) h, ap (λ (z : MemberView _). z.course.setting.options) h)
-acts_keep f (event.Piece n) m m' h = (own_leaves f (event.Piece n) m.course.live m.course m'.course tt h.1, ap (λ (z : MemberView _). z.waiting) h.0, ap (λ (z : MemberView _). z.next) h.0, options_stay f (event.Piece n) m.course m'.course h.1)
-acts_keep f event.Close m m' h = (own_leaves f event.Close m.course.live m.course m'.course tt h.1, ap (λ (z : MemberView _). z.waiting) h.0, ap (λ (z : MemberView _). z.next) h.0, options_stay f event.Close m.course m'.course h.1)
-acts_keep f event.Step m m' h = (own_leaves f event.Step m.course.live m.course m'.course tt h.1, ap (λ (z : MemberView _). z.waiting) h.0, ap (λ (z : MemberView _). z.next) h.0, options_stay f event.Step m.course m'.course h.1)
-acts_keep f (event.Steps n) m m' h = (own_leaves f (event.Steps n) m.course.live m.course m'.course tt h.1, ap (λ (z : MemberView _). z.waiting) h.0, ap (λ (z : MemberView _). z.next) h.0, options_stay f (event.Steps n) m.course m'.course h.1)
-acts_keep f (event.RunResult handle exit policy) m m' h = (own_leaves f (event.RunResult handle exit policy) m.course.live m.course m'.course tt h.1, ap (λ (z : MemberView _). z.waiting) h.0, ap (λ (z : MemberView _). z.next) h.0, options_stay f (event.RunResult handle exit policy) m.course m'.course h.1)
+acts_keep : {H : Type 0} (MayBegin : Type 0) (f : Meaning) (e : Event) (m m' : MemberView H) → Acts f e m m' → Stays MayBegin m m'
+acts_keep MayBegin f e m m' h =
+    let l = acts_leave f e m m' h in
+    let setting = acts_same f e m m' h in
+    (l.0, l.1, l.2, ap (λ (w : Setting). w.options) setting, inl (setting, acts_begun f e m m' h))
 
-module _ {H : Type 0} (P : Invocation H → Invocation H → Type 0) (May : MemberView H → ℕ → Type 0) (holds : Holds P May) where
+stops_keep : {H : Type 0} (MayBegin : Type 0) (m m' : MemberView H) → m' ≡ stopped m → Stays MayBegin m m'
+stops_keep MayBegin m m' is =
+    let setting : m'.course.setting ≡ m.course.setting = ap (λ (z : MemberView _). z.course.setting) is in (
+      ap (λ (z : MemberView _). z.course.journal) is,
+      ap (λ (z : MemberView _). z.waiting) is,
+      ap (λ (z : MemberView _). z.next) is,
+      ap (λ (w : Setting). w.options) setting,
+      inl (setting, λ b. stopped_begun m (subst HasBegun is b)),
+    )
+
+begins_keep : {H : Type 0} (MayBegin : Type 0) (base : List (List ℕ × List ℕ)) (m m' : MemberView H) → MayBegin → GoesBy (BeginsHanded whole_round base) m m' → Stays MayBegin m m'
+begins_keep MayBegin base m m' may h =
+    let l = begins_leaves whole_round base m.course m'.course h.1 in
+    (l.0, ap (λ (z : MemberView _). z.waiting) h.0, ap (λ (z : MemberView _). z.next) h.0, l.2, inr may)
+
+module _ {H : Type 0} (P : Invocation H → Invocation H → Type 0) (May : MemberView H → ℕ → Type 0) (MayBegin : Type 0) (holds : Holds P May MayBegin) where
   -- ---- one invocation
 
   is_same : (a b : Invocation H) → b ≡ a → P a b
   is_same a b e = subst (P a) (sym e) (holds.same a)
 
-  member_goes : (R : MemberView H → MemberView H → Type 0) (a b : Invocation H) → ((m m' : MemberView H) → R m m' → Stays m m') → MemberGoes R a b → P a b
+  member_goes : (R : MemberView H → MemberView H → Type 0) (a b : Invocation H) → ((m m' : MemberView H) → R m m' → Stays MayBegin m m') → MemberGoes R a b → P a b
   member_goes R a b f d = by a.member refl d
     where
       by : (o : Option (MemberView H)) → a.member ≡ o → GoesIn R o a b → P a b
       by None was same = is_same a b same
-      by (Some m) was (m', is, does) = let k = f m m' does in subst (P a) (sym is) (holds.goes a m m' was k.0 k.1 k.2 k.3)
+      by (Some m) was (m', is, does) = let k = f m m' does in subst (P a) (sym is) (holds.goes a m m' was k.0 k.1 k.2 k.3 k.4)
 
   sent_to : (s : Sent) (a b : Invocation H) → MemberGoes (λ x y. y ≡ with_signal s.signal s.brings x) a b → P a b
   sent_to s a b d = by a.member refl d
@@ -149,7 +177,7 @@ module _ {H : Type 0} (P : Invocation H → Invocation H → Type 0) (May : Memb
     where
       by : (o : Option (MemberView H)) → it.member ≡ o → P it (record it { member = option_map stopped it.member })
       by None was = is_same it (record it { member = option_map stopped it.member }) (ap (λ o. record it { member = option_map stopped o }) was ∙ sym (ap (λ o. record it { member = o }) was))
-      by (Some m) was = subst (P it) (sym (ap (λ o. record it { member = option_map stopped o }) was)) (holds.goes it m (stopped m) was refl refl refl refl)
+      by (Some m) was = subst (P it) (sym (ap (λ o. record it { member = option_map stopped o }) was)) (holds.goes it m (stopped m) was refl refl refl refl (inl (refl, stopped_begun m)))
 
   -- ---- all invocations
 
@@ -201,7 +229,7 @@ module _ {H : Type 0} (P : Invocation H → Invocation H → Type 0) (May : Memb
             ];
           }
 
-  goes_at : (place : ℕ) (R : MemberView H → MemberView H → Type 0) (old new : Engine H) → ((m m' : MemberView H) → R m m' → Stays m m') → ChangesAt place (MemberGoes R) old new → AllHold P old new
+  goes_at : (place : ℕ) (R : MemberView H → MemberView H → Type 0) (old new : Engine H) → ((m m' : MemberView H) → R m m' → Stays MayBegin m m') → ChangesAt place (MemberGoes R) old new → AllHold P old new
   goes_at place R old new f d = changes place (MemberGoes R) old new (λ a b was h. member_goes R a b f h) d
 
   found : (o : Option ℕ) (target : ℕ) (order : Order) (begun : Option Begun) (place : Option ℕ) (old new : Engine H) → FindsOrMakes o target order begun place old new → AllHold P old new
@@ -218,7 +246,7 @@ module _ {H : Type 0} (P : Invocation H → Invocation H → Type 0) (May : Memb
         made = m.made;
         named = ap (λ (z : Invocation H). z.id) m.as_asked ∙ ap id_of_place (sym new.0);
         began = λ x is. subst IsNew (sym (some_in m.made.member x (new_member old m.of.code (id_of_place (length old.invocations.items)) order) is (ap (λ (z : Invocation H). z.member) m.as_asked)))
-            (record { parameter = order.parameter; whole = m.whole; journal = refl; waiting = refl; next = refl });
+            (record { parameter = order.parameter; whole = m.whole; journal = refl; live = refl; waiting = refl; next = refl });
         since = is_same m.made it (sym new.1);
       }
 
@@ -242,9 +270,9 @@ module _ {H : Type 0} (P : Invocation H → Invocation H → Type 0) (May : Memb
   performs by None old new d = no_change old new d
   performs by (Some asks) old new d = effects by asks old new d
 
-  begins : (may : Bool) (place : ℕ) (old new : Engine H) → BeginsIf may place old new → AllHold P old new
-  begins false place old new d = no_change old new d
-  begins true place old new d = goes_at place (GoesBy (BeginsRound whole_round)) old new (λ m m' h. (ap (λ (c : CourseView _). c.journal) h.1.same, ap (λ (z : MemberView _). z.waiting) h.0, ap (λ (z : MemberView _). z.next) h.0, ap (λ (c : CourseView _). c.setting.options) h.1.same)) d
+  begins : MayBegin → (may : Bool) (place : ℕ) (old new : Engine H) → BeginsIf may place old new → AllHold P old new
+  begins begin false place old new d = no_change old new d
+  begins begin true place old new d = goes_at place (GoesBy (BeginsHanded whole_round (base_at old place))) old new (λ m m' h. begins_keep MayBegin (base_at old place) m m' begin h) d
 
   delivered : (meaning : H → Meaning) (place at : ℕ) (o : Option Brought) (old new : Engine H) → MayCome May old place at → brought_at old place at ≡ o → DeliversIf meaning place at o old new → AllHold P old new
   delivered meaning place at None old new may is d = no_change old new d
@@ -252,10 +280,10 @@ module _ {H : Type 0} (P : Invocation H → Invocation H → Type 0) (May : Memb
 
   -- ---- events
 
-  -- if it is a delivery, it meets its premise
+  -- if it is a delivery or a begin, it meets its premise
   abbrev pub MayHappen : Engine H → Happening → Type 0
   MayHappen e (happening.Submit order) = Unit {0}
-  MayHappen e (happening.Begin place) = Unit {0}
+  MayHappen e (happening.Begin place) = MayBegin
   MayHappen e (happening.Act place x) = Unit {0}
   MayHappen e (happening.Deliver place at) = MayCome May e place at
   MayHappen e (happening.Store place) = Unit {0}
@@ -265,11 +293,11 @@ module _ {H : Type 0} (P : Invocation H → Invocation H → Type 0) (May : Memb
 
   pub event_holds : (meaning : H → Meaning) (h : Happening) (old new : Engine H) → MayHappen old h → HappeningDoes meaning h old new → AllHold P old new
   event_holds meaning (happening.Submit order) old new may d = ordered (handler_named old.targets.now order.service order.handler) order None d.0 old new d.1
-  event_holds meaning (happening.Begin place) old new may d = begins (may_begin old place) place old new d
-  event_holds meaning (happening.Act place e) old new may d = goes_at place (λ (m : MemberView H). Acts (meaning m.course.handler) e m) old new (λ m m' k. acts_keep (meaning m.course.handler) e m m' k) d
+  event_holds meaning (happening.Begin place) old new may d = begins may (may_begin old place) place old new d
+  event_holds meaning (happening.Act place e) old new may d = goes_at place (λ (m : MemberView H). Acts (meaning m.course.handler) e m) old new (λ m m' k. acts_keep MayBegin (meaning m.course.handler) e m m' k) d
   event_holds meaning (happening.Deliver place at) old new may d = delivered meaning place at (brought_at old place at) old new may refl d
   event_holds meaning (happening.Store place) old new may d = hold_then old d.mid new (changes place (StoresIn meaning d.asks) old d.mid (λ a b was h. stores_one meaning d.asks a b h) d.stores) (performs place d.asks d.mid new d.performs)
-  event_holds meaning (happening.Stop place) old new may d = goes_at place (λ a b. b ≡ stopped a) old new (λ m m' is. (ap (λ (z : MemberView H). z.course.journal) is, ap (λ (z : MemberView H). z.waiting) is, ap (λ (z : MemberView H). z.next) is, ap (λ (z : MemberView H). z.course.setting.options) is)) d
+  event_holds meaning (happening.Stop place) old new may d = goes_at place (λ a b. b ≡ stopped a) old new (λ m m' is. stops_keep MayBegin m m' is) d
   event_holds meaning happening.StopAll old new may d = record {
     targets = ap (λ (e : Engine H). e.targets) d.0;
     each = λ i it was. (stopped_in it, ap (λ l. slice_get l i) d.1 ∙ slice_get-map stopped_in old.invocations.items i ∙ ap (option_map stopped_in) was, stops it);
@@ -280,12 +308,15 @@ module _ {H : Type 0} (P : Invocation H → Invocation H → Type 0) (May : Memb
   pub none_holds : (old new : Engine H) → new ≡ old → AllHold P old new
   none_holds old new same = no_change old new same
 
--- ---- laws that need no more of a delivery
+-- ---- laws that need no more of a delivery or a begin
 
 abbrev pub Any : {H : Type 0} → MemberView H → ℕ → Type 0
 Any m at = Unit {0}
 
-pub any_may : {H : Type 0} {P : Invocation H → Invocation H → Type 0} (holds : Holds P Any) (e : Engine H) (h : Happening) → MayHappen P Any holds e h
+abbrev pub Always : Type 0
+Always = Unit {0}
+
+pub any_may : {H : Type 0} {P : Invocation H → Invocation H → Type 0} (holds : Holds P Any Always) (e : Engine H) (h : Happening) → MayHappen P Any Always holds e h
 any_may holds e (happening.Submit order) = tt
 any_may holds e (happening.Begin place) = tt
 any_may holds e (happening.Act place x) = tt

@@ -23,7 +23,7 @@ use Rattle.engines.proofs.Growing.{some_in}
 use Rattle.engines.proofs.Keeping.{kept_from_nothing}
 use Rattle.engine_fences.specs.Causes.{CanComeOrHasToWait, InboxesAreAskedFor, InboxesHaveCauses}
 use Rattle.engine_fences.proofs.Causing.{waits_have_causes}
-use Rattle.engine_fences.proofs.Events.{AllHold, Any, Holds, any_may, event_holds, hold_then, none_holds}
+use Rattle.engine_fences.proofs.Events.{AllHold, Always, Any, Holds, any_may, event_holds, hold_then, none_holds}
 
 -- ---- one invocation
 
@@ -74,11 +74,11 @@ stored_stay {H} m m' asks f d all = of d.entry
 kept_stay : {H : Type 0} (a b : Invocation H) → b.member ≡ a.member → StaysAskedFor a b
 kept_stay a b same all m is = all m (sym same ∙ is)
 
-asked_stays : {H : Type 0} → Holds (StaysAskedFor {H = H}) Any
+asked_stays : {H : Type 0} → Holds (StaysAskedFor {H = H}) Any Always
 asked_stays {H} = record {
   same = λ it all. all;
   next = λ a b c f g all. g (f all);
-  goes = λ it m m' was journal waits ids options. rounds_stay it m m' was (same_stay m.waiting m'.waiting m.course.journal m'.course.journal waits journal);
+  goes = λ it m m' was journal waits ids options on. rounds_stay it m m' was (same_stay m.waiting m'.waiting m.course.journal m'.course.journal waits journal);
   gets = λ it m s was. rounds_stay it m _ was (signal_stay m.waiting s.signal s.brings m.course.journal);
   comes = λ it m m' at w b f was going there may d. rounds_stay it m m' was (came_stay m m' at b f d);
   stores = λ it m m' asks f was going d. rounds_stay it m m' was (stored_stay m m' asks f d);
@@ -89,8 +89,8 @@ asked_stays {H} = record {
 -- ---- all events
 
 all_asked : {H : Type 0} (meaning : H → Meaning) (es : List Happening) (old new : Engine H) → AllHappen meaning es old new → AllHold StaysAskedFor old new
-all_asked meaning [] old new d = none_holds StaysAskedFor Any asked_stays old new d
-all_asked meaning (e ∷ es) old new (mid, first, more) = hold_then StaysAskedFor Any asked_stays old mid new (event_holds StaysAskedFor Any asked_stays meaning e old mid (any_may asked_stays old e) first) (all_asked meaning es mid new more)
+all_asked meaning [] old new d = none_holds StaysAskedFor Any Always asked_stays old new d
+all_asked meaning (e ∷ es) old new (mid, first, more) = hold_then StaysAskedFor Any Always asked_stays old mid new (event_holds StaysAskedFor Any Always asked_stays meaning e old mid (any_may asked_stays old e) first) (all_asked meaning es mid new more)
 
 nothing_waits : (ws : List Waiting) (journal : List (List ℕ)) → ws ≡ [] → AreFrom ws journal
 nothing_waits ws journal none w id among waits = absurd (subst (IsOneOf w) none among)

@@ -12,5 +12,6 @@ pub mod Naming
 pub mod Ordered
 pub mod Places
 pub mod Settling
+pub mod HandingOn
 pub mod Signalling
 pub mod Turning

@@ -30,7 +30,7 @@ use Rattle.engines.proofs.Growing.{some_in}
 use Rattle.engine_fences.specs.Ordering.{AllInOrder, HappenInTurn, IsFirstAfter, IsFirstSignal, IsInTurn}
 use Rattle.engine_fences.specs.Signals.{passing, signal_by, signal_read, signal_waiting, signals_came, signals_of, signals_to, signals_waiting}
 use Rattle.engine_fences.proofs.Counting.{passes_by, passing_both}
-use Rattle.engine_fences.proofs.Events.{AllHold, Holds, MayHappen, event_holds, hold_then, none_holds}
+use Rattle.engine_fences.proofs.Events.{AllHold, Always, Holds, MayHappen, event_holds, hold_then, none_holds}
 use Rattle.engine_fences.proofs.Signalling.{ComesAs, IsApart, came_as, signals_come, store_apart}
 
 -- ---- lists
@@ -145,11 +145,11 @@ line_stores {H} it m m' asks f was d = by d.entry
 line_kept : {H : Type 0} (a b : Invocation H) → b.member ≡ a.member → InLine a b
 line_kept a b same m is = (m, same ∙ is, [], sym (append-nil (signals_of m)))
 
-stays_in_line : {H : Type 0} → Holds (InLine {H = H}) IsFirstSignal
+stays_in_line : {H : Type 0} → Holds (InLine {H = H}) IsFirstSignal Always
 stays_in_line {H} = record {
   same = λ it. line_kept it it refl;
   next = line_then;
-  goes = λ it m m' was journal waits ids options. line_same it m m' was (both (signals_came m'.course.journal) (signals_came m.course.journal) (signals_waiting m'.waiting) (signals_waiting m.waiting) (ap signals_came journal) (ap signals_waiting waits));
+  goes = λ it m m' was journal waits ids options on. line_same it m m' was (both (signals_came m'.course.journal) (signals_came m.course.journal) (signals_waiting m'.waiting) (signals_waiting m.waiting) (ap signals_came journal) (ap signals_waiting waits));
   gets = λ it m s was. line_on it m (with_signal s.signal s.brings m) (signal_note s.signal s.brings ∷ []) was
       (ap (λ l. signals_came m.course.journal ++ l) (waits_more m.waiting (waiting.Signal s.signal s.brings)) ∙ sym (append_assoc (signals_came m.course.journal) (signals_waiting m.waiting) (signal_note s.signal s.brings ∷ [])));
   comes = λ it m m' at w b f was going there first d. line_comes it m m' at w b f was there first d;
@@ -160,7 +160,7 @@ stays_in_line {H} = record {
 
 -- ---- all events
 
-in_turn : {H : Type 0} (e : Engine H) (h : Happening) → IsInTurn e h → MayHappen (InLine {H = H}) IsFirstSignal stays_in_line e h
+in_turn : {H : Type 0} (e : Engine H) (h : Happening) → IsInTurn e h → MayHappen (InLine {H = H}) IsFirstSignal Always stays_in_line e h
 in_turn e (happening.Submit order) t = tt
 in_turn e (happening.Begin place) t = tt
 in_turn e (happening.Act place x) t = tt
@@ -171,8 +171,8 @@ in_turn e happening.StopAll t = tt
 in_turn e (happening.Clock time) t = tt
 
 all_in_line : {H : Type 0} (meaning : H → Meaning) (es : List Happening) (old new : Engine H) → HappenInTurn meaning es old new → AllHold InLine old new
-all_in_line meaning [] old new d = none_holds InLine IsFirstSignal stays_in_line old new d
-all_in_line meaning (e ∷ es) old new (mid, first, turn, more) = hold_then InLine IsFirstSignal stays_in_line old mid new (event_holds InLine IsFirstSignal stays_in_line meaning e old mid (in_turn old e turn) first) (all_in_line meaning es mid new more)
+all_in_line meaning [] old new d = none_holds InLine IsFirstSignal Always stays_in_line old new d
+all_in_line meaning (e ∷ es) old new (mid, first, turn, more) = hold_then InLine IsFirstSignal Always stays_in_line old mid new (event_holds InLine IsFirstSignal Always stays_in_line meaning e old mid (in_turn old e turn) first) (all_in_line meaning es mid new more)
 
 -- what stands in front has waited longest
 pub front_in_turn : {H : Type 0} (e : Engine H) (place : ℕ) → IsInTurn e (happening.Deliver place 0)

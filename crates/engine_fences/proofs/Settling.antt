@@ -17,16 +17,17 @@ use Rattle.engine_inboxes.specs.Targets.{is_text, share}
 use Rattle.engines.specs.Lookups.{is_before}
 use Rattle.engines.specs.Members.{MemberView}
 use Rattle.engines.proofs.Growing.{some_in}
-use Rattle.engine_fences.specs.KeyStates.{AreSettled, left_along, state_left, no_values, shares_key, stored_of}
-use Rattle.engine_fences.proofs.Events.{AllHold, Any, Holds, any_may, event_holds, hold_then, none_holds}
+use Rattle.engines.specs.HandedOn.{left_along, no_values, shares_key, state_left, stored_of}
+use Rattle.engine_fences.specs.KeyStates.{AreSettled, IsHandedAlike}
+use Rattle.engine_fences.proofs.Events.{AllHold, Always, Any, Holds, any_may, event_holds, hold_then, none_holds}
 
 -- ---- over all events
 
 -- Its key and its handler stay; if it has ended, so do its end and what it has stored.
-record StaysEnded {H : Type 0} (a b : Invocation H) : Type 0 where
-  key : b.key ≡ a.key
-  target : b.target ≡ a.target
-  ended : is_some a.ended ≡ true → (is_some b.ended ≡ true) × (stored_of b.member ≡ stored_of a.member)
+pub record StaysEnded {H : Type 0} (a b : Invocation H) : Type 0 where
+  pub key : b.key ≡ a.key
+  pub target : b.target ≡ a.target
+  pub ended : is_some a.ended ≡ true → (is_some b.ended ≡ true) × (stored_of b.member ≡ stored_of a.member)
 
 ended_then : {H : Type 0} (a b c : Invocation H) → StaysEnded a b → StaysEnded b c → StaysEnded a c
 ended_then a b c f g = record {
@@ -45,11 +46,11 @@ rounds_change it m m' was same = record { key = refl; target = refl; ended = λ 
 not_both : (b : Bool) → b ≡ false → b ≡ true → ⊥
 not_both b is_not is = let x : true ≡ false = sym is ∙ is_not in cc
 
-so_stays : {H : Type 0} → Holds (StaysEnded {H = H}) Any
+so_stays : {H : Type 0} → Holds (StaysEnded {H = H}) Any Always
 so_stays {H} = record {
   same = λ it. record { key = refl; target = refl; ended = λ e. (e, refl) };
   next = ended_then;
-  goes = λ it m m' was journal waits ids options. rounds_change it m m' was (λ e. journal);
+  goes = λ it m m' was journal waits ids options on. rounds_change it m m' was (λ e. journal);
   gets = λ it m s was. rounds_change it m _ was (λ e. refl);
   comes = λ it m m' at w b f was going waits may d. rounds_change it m m' was (λ e. absurd (not_both (is_some it.ended) going e));
   stores = λ it m m' asks f was going d. rounds_change it m m' was (λ e. absurd (not_both (is_some it.ended) going e));
@@ -61,9 +62,9 @@ so_stays {H} = record {
   };
 }
 
-all_stay : {H : Type 0} (meaning : H → Meaning) (es : List Happening) (old new : Engine H) → AllHappen meaning es old new → AllHold StaysEnded old new
-all_stay {H} meaning [] old new d = none_holds StaysEnded Any so_stays old new d
-all_stay {H} meaning (e ∷ es) old new (mid, first, more) = hold_then StaysEnded Any so_stays old mid new (event_holds StaysEnded Any so_stays meaning e old mid (any_may so_stays old e) first) (all_stay meaning es mid new more)
+pub all_stay : {H : Type 0} (meaning : H → Meaning) (es : List Happening) (old new : Engine H) → AllHappen meaning es old new → AllHold StaysEnded old new
+all_stay {H} meaning [] old new d = none_holds StaysEnded Any Always so_stays old new d
+all_stay {H} meaning (e ∷ es) old new (mid, first, more) = hold_then StaysEnded Any Always so_stays old mid new (event_holds StaysEnded Any Always so_stays meaning e old mid (any_may so_stays old e) first) (all_stay meaning es mid new more)
 
 -- ---- the state that is handed on
 
@@ -105,13 +106,10 @@ along_same {H} targets own own' (suc n) (x ∷ xs) (y ∷ ys) state key target e
     (subst (λ (z : Invocation H). state_left (shares_key targets own' it') it' state ≡ state_left (shares_key targets own z) z state) (sym a) (left_same targets own own' it it' state key target s none)) in
     ap (left_along targets own' (take n ys)) one ∙ along_same targets own own' n xs ys (state_left (shares_key targets own x) x state) key target (λ j lt. each (suc j) (omega (arith, lt)))
 
--- so it is settled once an invocation has begun
-pub settled : {H : Type 0} (meaning : H → Meaning) (es : List Happening) (old new : Engine H) → AllKept old → AllHappen meaning es old new → AreSettled old new
-settled {H} meaning es old new kept d place it m was is begun =
-    let all = all_stay meaning es old new d in
+-- so it is settled once it is an invocation's turn
+pub turn_settles : {H : Type 0} (place : ℕ) (it : Invocation H) (old new : Engine H) → slice_get old.invocations.items place ≡ Some it → HasTurn old place it → AllHold StaysEnded old new → IsHandedAlike place it old new
+turn_settles {H} place it old new was turn all =
     let (it', there, s) = all.each place it was in
-    let k = kept place it was in
-    let turn : HasTurn old place it = k.turn (subst (λ (v : MemberView H). HasBegun v) (some_in it.member m k.rounds is k.there) begun) in
     record {
       later = it';
       there = there;
@@ -123,3 +121,12 @@ settled {H} meaning es old new kept d place it m was is begun =
           let (y, has, stay) = all.each j x had in
           (x, y, had, has, stay, none));
     }
+
+-- and once it has begun
+pub begun_settles : {H : Type 0} (old new : Engine H) → AllKept old → AllHold StaysEnded old new → AreSettled old new
+begun_settles old new kept all place it m was is begun =
+    let k = kept place it was in
+    turn_settles place it old new was (k.turn (subst HasBegun (some_in it.member m k.rounds is k.there) begun)) all
+
+pub settled : {H : Type 0} (meaning : H → Meaning) (es : List Happening) (old new : Engine H) → AllKept old → AllHappen meaning es old new → AreSettled old new
+settled meaning es old new kept d = begun_settles old new kept (all_stay meaning es old new d)

@@ -33,7 +33,7 @@ use Rattle.engine_inboxes.specs.Deliverable.{effect_at, waited_by, waits_for_out
 use Rattle.engine_inboxes.proofs.Coming.{none_some, note_said, some_same}
 use Rattle.world_rounds.specs.declared.types.Event.{Event}
 use Rattle.world_rounds.specs.declared.types.Event.TheVariants as event
-use Rattle.world_rounds.specs.Course.{BeginsRound, CourseView, HappensTo}
+use Rattle.world_rounds.specs.Course.{CourseView, HappensTo}
 use Rattle.world_rounds.specs.Rounds.{Now}
 use Rattle.world_rounds.proofs.Settled.{IsItem, command_unread, completion_read}
 use Rattle.engines.specs.declared.engine.Engine.{Engine}
@@ -46,8 +46,10 @@ use Rattle.engines.specs.Beginnings.{entry_of_input}
 use Rattle.engines.specs.Engines.{AddsCallee, AllHappen, BeginsIf, ChangesAt, ChangesOne, DeliversIf, DeliversTo, DeliversUnless, DoesEffect, EndsWith, FindsOrMakes, GoesIn, HappeningDoes, MakesInvocation, MemberGoes, NoneAt, OrdersOf, PerformsIf, SendsToPlace, StoresIn, StoresInMember, StoresUnless, brought_at, new_member, order_of, stopped_in, whole_round}
 use Rattle.engine_inboxes.specs.Targets.{handler_named, is_text}
 use Rattle.engines.specs.Lookups.{id_of_place, may_begin, place_of, same_as}
+use Rattle.engines.specs.HandedOn.{BeginsHanded, base_at}
 use Rattle.engines.specs.Members.{Acts, ArrivesFromInbox, Delivers, GoesBy, MemberView, NoEntry, StoresEntry, StoresNextEntry, stopped, with_signal}
 use Rattle.engine_fences.specs.Signals.{NoneFromNowhere, SignalTest, SignalsComeOnce, passing, signals_of, signals_to}
+use Rattle.engines.proofs.Beginnings.{begins_leaves}
 use Rattle.engines.proofs.Among.{get_left, get_pushed}
 use Rattle.engines.proofs.Books.{nothing_asked}
 use Rattle.engines.proofs.Growing.{some_in}
@@ -365,8 +367,8 @@ goes_alike {H} R a b f d = by a.member refl d
         let still = f m m' does in
         member_alike nothing_more a b m m' was is still.0 (λ test id. still.1 test id ∙ sym (plus_none (sent_in test id m.course.journal) 0 refl))
 
-begins_still : {H : Type 0} (m m' : MemberView H) → GoesBy (BeginsRound whole_round) m m' → Still m m'
-begins_still m m' h = still_same m m' (ap (λ (c : CourseView _). c.journal) h.1.same) (ap (λ (z : MemberView _). z.waiting) h.0)
+begins_still : {H : Type 0} (base : List (List ℕ × List ℕ)) (m m' : MemberView H) → GoesBy (BeginsHanded whole_round base) m m' → Still m m'
+begins_still base m m' h = still_same m m' (begins_leaves whole_round base m.course m'.course h.1).0 (ap (λ (z : MemberView _). z.waiting) h.0)
 
 acts_still : {H : Type 0} (f : Meaning) (e : Event) (m m' : MemberView H) → Acts f e m m' → Still m m'
 acts_still f (event.Arrive x) m m' h = still_same m m' (ap (λ (z : MemberView _). z.course.journal) h) (ap (λ (z : MemberView _). z.waiting) h)
@@ -743,7 +745,7 @@ fair_stopped {H} old new all = fair_quiet old new (record {
 
 fair_begins : {H : Type 0} (may : Bool) (place : ℕ) (old new : Engine H) → BeginsIf may place old new → Fair old.invocations.items new.invocations.items
 fair_begins false place old new d = fair_same old new d
-fair_begins true place old new d = fair_goes place (GoesBy (BeginsRound whole_round)) old new begins_still d
+fair_begins true place old new d = fair_goes place (GoesBy (BeginsHanded whole_round (base_at old place))) old new (begins_still (base_at old place)) d
 
 fair_event : {H : Type 0} (meaning : H → Meaning) (h : Happening) (old new : Engine H) → HappeningDoes meaning h old new → Fair old.invocations.items new.invocations.items
 fair_event meaning (happening.Submit order) old new d = fair_orders (handler_named old.targets.now order.service order.handler) order None d.0 old new d.1

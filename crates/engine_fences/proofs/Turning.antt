@@ -10,7 +10,7 @@ use Rattle.engine_inboxes.specs.declared.target.Target.{Target}
 use Rattle.engine_inboxes.specs.Targets.{are_exclusive, are_exclusive_of, is_text, share}
 use Rattle.engines.specs.Lookups.{can_begin, has_turn, is_before}
 use Rattle.engines.proofs.Growing.{some_in}
-use Rattle.engine_fences.specs.KeyStates.{shares_key}
+use Rattle.engines.specs.HandedOn.{shares_key}
 use Rattle.engine_fences.specs.KeyTurns.{HasNext, TurnsGoOn}
 
 -- ---- tests

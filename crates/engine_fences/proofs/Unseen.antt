@@ -14,8 +14,10 @@ use Rattle.engine_fences.specs.declared.fences.FencedEngine.{FencedEngine}
 use Rattle.engine_fences.specs.Causes.{InboxesHaveCauses}
 use Rattle.engine_fences.specs.Completions.{CompletionsAreAskedFor, CompletionsAreOwn}
 use Rattle.engine_fences.specs.Fences.{AllFenced, FencedIf, grants}
+use Rattle.engine_fences.specs.KeyStates.{StatesAreHandedOn}
 use Rattle.engine_fences.specs.Signals.{NoneFromNowhere}
 use Rattle.engine_fences.proofs.Completing.{completions_asked, completions_own}
+use Rattle.engine_fences.proofs.HandingOn.{states_handed_on}
 use Rattle.engine_fences.proofs.Inboxes.{inboxes_caused}
 use Rattle.engine_fences.proofs.Signalling.{none_from_nowhere}
 
@@ -63,6 +65,11 @@ pub fenced_own : {H : Type 0} (meaning : H → Meaning) (es : List Asked) (old n
 fenced_own meaning es old new none r h =
     let g = are_granted meaning es old new h in
     completions_own meaning g.events old.engine new.engine none r g.happen
+
+pub fenced_states : {H : Type 0} (meaning : H → Meaning) (es : List Asked) (old new : FencedEngine H) → old.engine.invocations.items ≡ [] → AllFenced meaning es old new → StatesAreHandedOn new.engine
+fenced_states meaning es old new none h =
+    let g = are_granted meaning es old new h in
+    states_handed_on meaning g.events old.engine new.engine none g.happen
 
 -- and all attempts go on to replay and queue
 pub fenced_replay : {H : Type 0} (meaning : H → Meaning) (es : List Asked) (old new : FencedEngine H) → AllFenced meaning es old new → AllReplay old.engine → AllReplay new.engine

@@ -3,7 +3,7 @@ use Rattle.std.specs.Prelude.{◌≡◌, ◌⊎◌, ℕ, ◌≤◌, true, nat_le
 use Rattle.engines.specs.declared.engine.Engine.{Engine}
 use Rattle.engines.specs.declared.engine.Invocation.{Invocation}
 use Rattle.engines.specs.Lookups.{may_begin}
-use Rattle.engine_fences.specs.KeyStates.{shares_key}
+use Rattle.engines.specs.HandedOn.{shares_key}
 
 -- It, or one that was made before it for the same key, hasn't ended, and may begin once its time
 -- comes.

@@ -6,6 +6,7 @@ ghost use Rattle.engines.specs.Replaying.{AllReplay};
 ghost use Rattle.world_rounds.specs.Rounds.{ReplaysAndQueues};
 ghost use Rattle.engine_fences.specs.Causes.{InboxesHaveCauses};
 ghost use Rattle.engine_fences.specs.Completions.{CompletionsAreAskedFor, CompletionsAreOwn};
+ghost use Rattle.engine_fences.specs.KeyStates.{StatesAreHandedOn};
 ghost use Rattle.engine_fences.specs.Signals.{NoneFromNowhere};
 ghost use Rattle.engine_fences.specs.Fences.{AllFenced, FencedDoes, NamesEpoch, grants};
 
@@ -128,6 +129,8 @@ pub fn play_fenced<'a, H: Handler + Drop>(
 ) -> Result<FencedEngine<'a, H>, EngineFault>
     // What holds between invocations holds also while attempts that are lost go on, and ask for more.
     ensures kept { IfOk result (λ f. AllKept f.engine) }
+    // Attempts are handed the state that the exclusive invocations of their key that were made before leave, one after another.
+    ensures states { IfOk result (λ f. StatesAreHandedOn f.engine) }
     // No signal comes that wasn't sent.
     ensures signals { IfOk result (λ f. NoneFromNowhere f.engine) }
     // All that waits can come, or it is a sleep whose time hasn't come, or the result of an invocation that hasn't ended.

@@ -23,7 +23,8 @@ use Rattle.vm_attempt.proofs.Replayed.{commands_same}
 use Rattle.world_rounds.specs.declared.types.Event.{Event}
 use Rattle.world_rounds.specs.declared.types.Event.TheVariants as event
 use Rattle.world_rounds.specs.declared.types.Setting.{Setting}
-use Rattle.world_rounds.specs.Course.{CourseView, HappensTo}
+use Rattle.world_rounds.specs.declared.types.Round.{Round}
+use Rattle.world_rounds.specs.Course.{BeginsRound, CourseView, HappensTo}
 use Rattle.world_rounds.specs.Guarantees.{IsExactlyOnce, IsReplayable}
 use Rattle.world_rounds.specs.Outside.{AddRunsAlone, IsOfRun, IsOfRunId, OutsideIn}
 use Rattle.world_rounds.specs.Rounds.{Now, ReplaysAndQueues}
@@ -43,7 +44,8 @@ use Rattle.engine_inboxes.proofs.Coming.{id_listed, listed, none_some, note_said
 use Rattle.engines.specs.Beginnings.{BeganWithInput, IsPastAll, IsWholeInput, MemberLasts, entry_of_input}
 use Rattle.journal_entries.specs.declared.fault.JournalFault.{JournalFault}
 use Rattle.engine_inboxes.specs.Faults.{IsMemoryOrFull, fault_of_entry, fault_of_store}
-use Rattle.engines.specs.Members.{MayStoreOne, MemberView, NoEntry, StoresEntry, StoresNextEntry, case_in}
+use Rattle.engines.specs.HandedOn.{BeginsHanded, handed_if, has_input_alone}
+use Rattle.engines.specs.Members.{GoesBy, MayStoreOne, MemberView, NoEntry, StoresEntry, StoresNextEntry, case_in}
 use Rattle.engines.proofs.Among.{get_left}
 use Rattle.engines.proofs.Storing.{input_said}
 
@@ -57,6 +59,35 @@ happens_given m e (Some now) old new (is, (next, h, seen)) = ap (λ (c : CourseV
 pub happens_setting : {H : Type 0} (m : Meaning) (e : Event) (live : Option Now) (old new : CourseView H) → HappensTo m e live old new → new.setting ≡ old.setting
 happens_setting m e None old new same = ap (λ (c : CourseView _). c.setting) same
 happens_setting m e (Some now) old new (is, (next, h, seen)) = ap (λ (c : CourseView _). c.setting) seen
+
+-- what is handed changes neither what is stored nor how attempts go
+handed_leaves : {H : Type 0} (b : Bool) (base : List (List ℕ × List ℕ)) (c : CourseView H) → ((handed_if b base c).journal ≡ c.journal) × ((handed_if b base c).given ≡ c.given) × ((handed_if b base c).setting.options ≡ c.setting.options)
+handed_leaves false base c = (refl, refl, refl)
+handed_leaves true base c = (refl, refl, refl)
+
+-- nor does the round that begins by it
+pub begins_leaves : {H : Type 0} (round : Round) (base : List (List ℕ × List ℕ)) (c c' : CourseView H) → BeginsHanded round base c c' → (c'.journal ≡ c.journal) × (c'.given ≡ c.given) × (c'.setting.options ≡ c.setting.options)
+begins_leaves round base c c' h =
+    let l = handed_leaves (has_input_alone c) base c in (
+      ap (λ (v : CourseView _). v.journal) h.same ∙ l.0,
+      ap (λ (v : CourseView _). v.given) h.same ∙ l.1,
+      ap (λ (v : CourseView _). v.setting.options) h.same ∙ l.2,
+    )
+
+-- an attempt that was lost before is no part of what is handed
+lost_before : {H : Type 0} (b : Bool) (round : Round) (base : List (List ℕ × List ℕ)) (c c' : CourseView H) → BeginsRound round (handed_if b base (record c { live = None })) c' → BeginsRound round (handed_if b base c) c'
+lost_before false round base c c' h = record { same = h.same; begun = h.begun }
+lost_before true round base c c' h = record { same = h.same; begun = h.begun }
+
+pub begins_handed : {H : Type 0} (round : Round) (base : List (List ℕ × List ℕ)) (c lost handed c' : CourseView H) → lost ≡ record c { live = None } → handed ≡ handed_if (has_input_alone lost) base lost → BeginsRound round handed c' → BeginsHanded round base c c'
+begins_handed round base c lost handed c' was is h =
+    lost_before (has_input_alone c) round base c c'
+    (subst (λ (z : CourseView _). BeginsRound round (handed_if (has_input_alone z) base z) c') was
+    (subst (λ (z : CourseView _). BeginsRound round z c') is h))
+
+-- the same as callers see it
+pub begin_seen : {H : Type 0} (round : Round) (base : List (List ℕ × List ℕ)) (old : MemberView H) (c c' : CourseView H) (waiting : List Waiting) (next : ℕ) → record { course = c; waiting = waiting; next = next } ≡ old → BeginsHanded round base c c' → GoesBy (BeginsHanded round base) old (record { course = c'; waiting = waiting; next = next })
+begin_seen round base old c c' waiting next is h = subst (λ (v : MemberView _). GoesBy (BeginsHanded round base) v (record { course = c'; waiting = waiting; next = next })) is (refl, h)
 
 -- the first entry stays
 began_more : (given : ℕ) (old new : List (List ℕ)) (entry : List ℕ) → new ≡ old ++ entry ∷ [] → BeganWithInput given old → BeganWithInput given new

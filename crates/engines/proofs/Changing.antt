@@ -3,7 +3,6 @@ use Rattle.std.proofs.Common.{◌≡◌, ◌⊎◌, inl, inr, ◌≤◌, ◌<◌
 use Rattle.std.specs.Prelude.{is_some, slice_get}
 use Rattle.std.specs.Option.{option_map}
 use Rattle.std.proofs.lemmas.List.{append_assoc, drop_more, get_or_at, length-append, length-drop, length-map, length-take-le, map_more, set_at, take_all}
-use Rattle.world_rounds.specs.Course.{BeginsRound}
 use Rattle.journal_store.specs.declared.effect.Sent.{Sent}
 use Rattle.engine_inboxes.specs.declared.order.Begun.{Begun}
 use Rattle.engine_inboxes.specs.declared.order.Callee.{Callee}
@@ -21,6 +20,7 @@ use Rattle.engines.specs.declared.engine.Invocation.{Invocation}
 use Rattle.vm_model.specs.Calls.{Meaning}
 use Rattle.journal_store.specs.declared.effect.Effect.{Effect}
 use Rattle.engine_inboxes.specs.declared.types.Brought.{Brought}
+use Rattle.engines.specs.HandedOn.{BeginsHanded, base_at}
 use Rattle.engines.specs.Members.{Delivers, GoesBy, MemberView, StoresNextEntry, stopped, with_signal}
 use Rattle.engines.specs.Beginnings.{IsWholeInput, entry_of_input}
 use Rattle.engines.specs.Engines.{AddsCallee, AllHappen, BeginsIf, ChangesAt, ChangesOne, DeliversAt, DeliversIf, DeliversTo, DeliversUnless, DoesEffect, EndsWith, FindsOrMakes, GoesIn, HappeningDoes, MakesInvocation, MemberGoes, NoneAt, Orders, OrdersOf, PerformsIf, Sends, SendsToPlace, StoresAndPerforms, StoresIn, StoresInMember, StoresUnless, brought_at, new_setting, stopped_in, whole_round}
@@ -136,7 +136,7 @@ stored_alone meaning place o old new is stores = record { mid = new; asks = o; n
 pub may_not : {H : Type 0} (b : Bool) (place : ℕ) (old : Engine H) → b ≡ may_begin old place → b ≡ false → BeginsIf (may_begin old place) place old old
 may_not b place old is e = subst (λ z. BeginsIf z place old old) (sym e ∙ is) refl
 
-pub may_so : {H : Type 0} (b : Bool) (place : ℕ) (old new : Engine H) → b ≡ may_begin old place → b ≡ true → ChangesAt place (MemberGoes (GoesBy (BeginsRound whole_round))) old new → BeginsIf (may_begin old place) place old new
+pub may_so : {H : Type 0} (b : Bool) (place : ℕ) (old new : Engine H) → b ≡ may_begin old place → b ≡ true → ChangesAt place (MemberGoes (GoesBy (BeginsHanded whole_round (base_at old place)))) old new → BeginsIf (may_begin old place) place old new
 may_so b place old new is e h = subst (λ z. BeginsIf z place old new) (sym e ∙ is) h
 
 -- ---- a delivery

@@ -33,7 +33,7 @@ use Rattle.engine_inboxes.proofs.Coming.{FitsId, command_adds, fits, none_some, 
 use Rattle.world_rounds.specs.declared.types.Event.{Event}
 use Rattle.world_rounds.specs.declared.types.Event.TheVariants as event
 use Rattle.journal_store.specs.declared.effect.Sent.{Sent}
-use Rattle.world_rounds.specs.Course.{BeginsRound, CourseView, HappensTo}
+use Rattle.world_rounds.specs.Course.{CourseView, HappensTo}
 use Rattle.world_rounds.specs.Rounds.{Now}
 use Rattle.engines.specs.declared.engine.Engine.{Engine}
 use Rattle.engines.specs.declared.engine.Invocation.{Invocation}
@@ -47,8 +47,10 @@ use Rattle.engines.specs.Beginnings.{entry_of_input}
 use Rattle.engines.specs.Engines.{AddsCallee, AllHappen, BeginsFor, BeginsIf, ChangesAt, DeliversIf, DeliversTo, DeliversUnless, EndsWith, FindsOrMakes, GoesIn, HappeningDoes, MakesInvocation, MemberGoes, Orders, OrdersOf, PerformsIf, SendsToPlace, StoresAndPerforms, StoresIn, StoresInMember, StoresUnless, brought_at, brought_in, brought_of, new_member, order_of, stopped_in, whole_round}
 use Rattle.engine_inboxes.specs.Targets.{handler_named}
 use Rattle.engines.specs.Lookups.{brought_for, callee_in, callee_of, callee_id, id_of_place, is_same, may_begin, place_of, callee_result, same_as, same_by}
+use Rattle.engines.specs.HandedOn.{BeginsHanded, base_at}
 use Rattle.engines.specs.Members.{Acts, ArrivesFromInbox, Delivers, GoesBy, MemberView, NoEntry, StoresEntry, StoresNextEntry, with_signal, stopped}
 use Rattle.engines.proofs.Among.{all_among, all_push, all_with, among_at, among_either, get_last, get_left, get_pushed, get_within, first_none, one_each, waited_among, zip_push, zip_with}
+use Rattle.engines.proofs.Beginnings.{begins_leaves}
 use Rattle.engines.proofs.Books.{Book, book_came, book_command, book_proposal, book_signal, called_more, called_same, done_true, nothing_asked, results_more, waited_more, waited_same}
 use Rattle.engines.proofs.Growing.{Grows, GrowsOne, HasFirst, Seen, begins_in_turn, grows_not, grows_same, grows_seen, grows_then, once_grows, one_then, place_grows, right_grows, row_grows, seen_at, some_in, turn_grows}
 use Rattle.engines.proofs.Storing.{IsUndone, IsUndoneId, input_note, input_quiet, input_unknown, own_leaves, stored_facts}
@@ -134,11 +136,11 @@ abbrev Turns : {H : Type 0} → ℕ → (MemberView H → MemberView H → Type 
 Turns {H} place R old = (before : Invocation H) (m m' : MemberView H) → slice_get old.invocations.items place ≡ Some before → R m m' → HasBegun m' → HasBegun m ⊎ HasTurn old place before
 
 -- by the same rounds it had begun, or hadn't
-begun_same : {H : Type 0} (m m' : MemberView H) → m'.course ≡ m.course → HasBegun m' → HasBegun m
+pub begun_same : {H : Type 0} (m m' : MemberView H) → m'.course ≡ m.course → HasBegun m' → HasBegun m
 begun_same m m' e b = subst (λ (c : CourseView _). (is_some c.live ≡ true) ⊎ (1 < length c.journal)) e b
 
 -- an event happens only to what has begun
-begun_before : {H : Type 0} (f : Meaning) (e : Event) (m m' : MemberView H) → HappensTo f e m.course.live m.course m'.course → HasBegun m' → HasBegun m
+pub begun_before : {H : Type 0} (f : Meaning) (e : Event) (m m' : MemberView H) → HappensTo f e m.course.live m.course m'.course → HasBegun m' → HasBegun m
 begun_before {H} f e m m' h b = of m.course.live refl h
   where
     of : (o : Option Now) → m.course.live ≡ o → HappensTo f e o m.course m'.course → HasBegun m
@@ -171,7 +173,7 @@ acts_quiet f event.Step m m' h = goes_quiet m m' h.0 (own_leaves f event.Step m.
 acts_quiet f (event.Steps n) m m' h = goes_quiet m m' h.0 (own_leaves f (event.Steps n) m.course.live m.course m'.course tt h.1)
 acts_quiet f (event.RunResult handle exit policy) m m' h = goes_quiet m m' h.0 (own_leaves f (event.RunResult handle exit policy) m.course.live m.course m'.course tt h.1)
 
-acts_begun : {H : Type 0} (f : Meaning) (e : Event) (m m' : MemberView H) → Acts f e m m' → HasBegun m' → HasBegun m
+pub acts_begun : {H : Type 0} (f : Meaning) (e : Event) (m m' : MemberView H) → Acts f e m m' → HasBegun m' → HasBegun m
 acts_begun f (event.Arrive x) m m' h b = begun_same m m' (ap (λ (z : MemberView _). z.course) h) b
 acts_begun f (event.Store n) m m' h b = begun_same m m' (ap (λ (z : MemberView _). z.course) h) b
 acts_begun f (event.Piece n) m m' h b = begun_before f (event.Piece n) m m' h.1 b
@@ -830,7 +832,7 @@ stores_kept {H} meaning place old new d k = elim (seen_at place (StoresIn meanin
 
 -- ---- an event
 
-stopped_begun : {H : Type 0} (m : MemberView H) → HasBegun (stopped m) → HasBegun m
+pub stopped_begun : {H : Type 0} (m : MemberView H) → HasBegun (stopped m) → HasBegun m
 stopped_begun m (inl live) = let x : false ≡ true = live in absurd (cc)
 stopped_begun m (inr long) = inr long
 
@@ -860,13 +862,13 @@ all_stopped {H} old new e all k =
 
 begins_kept : {H : Type 0} (may : Bool) (place : ℕ) (old new : Engine H) → may_begin old place ≡ may → BeginsIf may place old new → Keeps old → Keeps new
 begins_kept false place old new is d k = subst (λ z. Keeps z) (sym d) k
-begins_kept true place old new is d k = quiet_changes place (GoesBy (BeginsRound whole_round)) old new (λ m m' h. goes_quiet m m' h.0 (ap (λ (c : CourseView _). c.journal) h.1.same)) (λ before m m' was h b. inr (begins_in_turn old place before was is)) d k
+begins_kept true place old new is d k = quiet_changes place (GoesBy (BeginsHanded whole_round (base_at old place))) old new (λ m m' h. goes_quiet m m' h.0 (begins_leaves whole_round (base_at old place) m.course m'.course h.1).0) (λ before m m' was h b. inr (begins_in_turn old place before was is)) d k
 
 delivers_kept : {H : Type 0} (meaning : H → Meaning) (place at : ℕ) (o : Option Brought) (old new : Engine H) → brought_at old place at ≡ o → DeliversIf meaning place at o old new → Keeps old → Keeps new
 delivers_kept meaning place at None old new is d k = subst (λ z. Keeps z) (sym d) k
 delivers_kept meaning place at (Some b) old new is d k = delivered meaning place at b old new is d k
 
-happening_keeps : {H : Type 0} (meaning : H → Meaning) (h : Happening) (old new : Engine H) → HappeningDoes meaning h old new → Keeps old → Keeps new
+pub happening_keeps : {H : Type 0} (meaning : H → Meaning) (h : Happening) (old new : Engine H) → HappeningDoes meaning h old new → Keeps old → Keeps new
 happening_keeps meaning (happening.Submit order) old new d k = submitted order d.0 old new d.1 k
 happening_keeps meaning (happening.Begin place) old new d k = begins_kept (may_begin old place) place old new refl d k
 happening_keeps meaning (happening.Act place e) old new d k = quiet_changes place (λ (m : MemberView _). Acts (meaning m.course.handler) e m) old new (λ m m' h. acts_quiet (meaning m.course.handler) e m m' h) (λ before m m' was h b. inl (acts_begun (meaning m.course.handler) e m m' h b)) d k
@@ -882,7 +884,7 @@ all_keep : {H : Type 0} (meaning : H → Meaning) (es : List Happening) (old new
 all_keep meaning [] old new d k = subst (λ z. Keeps z) (sym d) k
 all_keep meaning (e ∷ es) old new (mid, first, more) k = all_keep meaning es mid new more (happening_keeps meaning e old mid first k)
 
-none_keeps : {H : Type 0} (e : Engine H) → e.invocations.items ≡ [] → Keeps e
+pub none_keeps : {H : Type 0} (e : Engine H) → e.invocations.items ≡ [] → Keeps e
 none_keeps e none by it is = absurd (none_some it (ap (λ l. slice_get l by) (sym none) ∙ is))
 
 -- over all events from nothing on, calls are kept

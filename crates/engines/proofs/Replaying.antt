@@ -8,7 +8,6 @@ use Rattle.vm_types.specs.declared.options.VMOptions.{VMOptions}
 use Rattle.world_rounds.specs.declared.types.Event.{Event}
 use Rattle.world_rounds.specs.declared.types.Event.TheVariants as event
 use Rattle.world_rounds.specs.declared.types.Setting.{Setting}
-use Rattle.world_rounds.specs.Course.{BeginsRound, CourseView}
 use Rattle.world_rounds.specs.Rounds.{ReplaysAndQueues}
 use Rattle.journal_store.specs.declared.effect.Effect.{Effect}
 use Rattle.journal_store.specs.declared.effect.Effect.TheVariants as effect
@@ -25,10 +24,11 @@ use Rattle.engines.specs.Engines.{AddsCallee, AllHappen, BeginsIf, ChangesAt, Ch
 use Rattle.engine_inboxes.specs.Faults.{IsMemoryOrFull, IsNoArrival}
 use Rattle.engine_inboxes.specs.Targets.{handler_named}
 use Rattle.engines.specs.Lookups.{may_begin, place_of, same_as}
+use Rattle.engines.specs.HandedOn.{BeginsHanded, base_at}
 use Rattle.engines.specs.Members.{Acts, Delivers, GoesBy, MemberView, with_signal, stopped}
 use Rattle.engines.specs.Replaying.{AllReplay, Replays, ReplaysIn}
 use Rattle.engines.proofs.Among.{all_push}
-use Rattle.engines.proofs.Beginnings.{happens_setting}
+use Rattle.engines.proofs.Beginnings.{begins_leaves, happens_setting}
 
 -- ---- lists
 
@@ -62,13 +62,20 @@ changes place R old new f (e, which) h = record {
 }
 
 -- the attempts of an invocation are made with the same as before
-abbrev SameSetting : {H : Type 0} → MemberView H → MemberView H → Type 0
+abbrev pub SameSetting : {H : Type 0} → MemberView H → MemberView H → Type 0
 SameSetting m m' = m'.course.setting ≡ m.course.setting
 
-replays_so : {H : Type 0} (m m' : MemberView H) → SameSetting m m' → ReplaysIn (Some m) → ReplaysIn (Some m')
-replays_so m m' e r = subst (λ (w : Setting). ReplaysAndQueues w.options) (sym e) r
+-- or with the same options
+abbrev SameOptions : {H : Type 0} → MemberView H → MemberView H → Type 0
+SameOptions m m' = m'.course.setting.options ≡ m.course.setting.options
 
-goes : {H : Type 0} (R : MemberView H → MemberView H → Type 0) → ((m m' : MemberView H) → R m m' → SameSetting m m') → (a b : Invocation H) → MemberGoes R a b → Replays a → Replays b
+options_of : {H : Type 0} (m m' : MemberView H) → SameSetting m m' → SameOptions m m'
+options_of m m' e = ap (λ (w : Setting). w.options) e
+
+replays_so : {H : Type 0} (m m' : MemberView H) → SameOptions m m' → ReplaysIn (Some m) → ReplaysIn (Some m')
+replays_so m m' e r = subst ReplaysAndQueues (sym e) r
+
+goes : {H : Type 0} (R : MemberView H → MemberView H → Type 0) → ((m m' : MemberView H) → R m m' → SameOptions m m') → (a b : Invocation H) → MemberGoes R a b → Replays a → Replays b
 goes {H} R f a b h = by a.member refl h
   where
     by : (o : Option (MemberView H)) → a.member ≡ o → GoesIn R o a b → ReplaysIn a.member → ReplaysIn b.member
@@ -76,13 +83,10 @@ goes {H} R f a b h = by a.member refl h
     by (Some m) is (m', becomes, does) r = subst (λ (z : Invocation H). ReplaysIn z.member) (sym becomes) (replays_so m m' (f m m' does) (subst ReplaysIn is r))
 
 -- the invocation at a place goes on so
-member_changes : {H : Type 0} (place : ℕ) (R : MemberView H → MemberView H → Type 0) (old new : Engine H) → ((m m' : MemberView H) → R m m' → SameSetting m m') → ChangesAt place (MemberGoes R) old new → AllReplay old → AllReplay new
+member_changes : {H : Type 0} (place : ℕ) (R : MemberView H → MemberView H → Type 0) (old new : Engine H) → ((m m' : MemberView H) → R m m' → SameOptions m m') → ChangesAt place (MemberGoes R) old new → AllReplay old → AllReplay new
 member_changes place R old new f d h = changes place (MemberGoes R) old new (goes R f) d h
 
-begins_same : {H : Type 0} (m m' : MemberView H) → GoesBy (BeginsRound whole_round) m m' → SameSetting m m'
-begins_same m m' h = ap (λ (c : CourseView _). c.setting) h.1.same
-
-acts_same : {H : Type 0} (f : Meaning) (e : Event) (m m' : MemberView H) → Acts f e m m' → SameSetting m m'
+pub acts_same : {H : Type 0} (f : Meaning) (e : Event) (m m' : MemberView H) → Acts f e m m' → SameSetting m m'
 acts_same f (event.Arrive x) m m' h = ap (λ (z : MemberView _). z.course.setting) h
 acts_same f (event.Store n) m m' h = ap (λ (z : MemberView _). z.course.setting) h
 acts_same f (event.Piece n) m m' h = happens_setting f (event.Piece n) m.course.live m.course m'.course h.1
@@ -91,7 +95,7 @@ acts_same f event.Step m m' h = happens_setting f event.Step m.course.live m.cou
 acts_same f (event.Steps n) m m' h = happens_setting f (event.Steps n) m.course.live m.course m'.course h.1
 acts_same f (event.RunResult handle exit policy) m m' h = happens_setting f (event.RunResult handle exit policy) m.course.live m.course m'.course h.1
 
-delivers_same : {H : Type 0} (at : ℕ) (b : Brought) (f : Meaning) (m m' : MemberView H) → Delivers at b f m m' → SameSetting m m'
+pub delivers_same : {H : Type 0} (at : ℕ) (b : Brought) (f : Meaning) (m m' : MemberView H) → Delivers at b f m m' → SameSetting m m'
 delivers_same at b f m m' (inl h) = ap (λ (z : MemberView _). z.course.setting) h.1
 delivers_same at b f m m' (inr a) = happens_setting f (event.Arrive a.entry) m.course.live m.course m'.course a.arrived
 
@@ -100,14 +104,14 @@ delivers {H} meaning at b x y h = by (is_some x.ended) h
   where
     by : (ended : Bool) → DeliversUnless ended meaning at b x y → Replays x → Replays y
     by true same r = subst Replays (sym same) r
-    by false d r = goes (λ (m : MemberView H). Delivers at b (meaning m.course.handler) m) (λ m m' k. delivers_same at b (meaning m.course.handler) m m' k) x y d r
+    by false d r = goes (λ (m : MemberView H). Delivers at b (meaning m.course.handler) m) (λ m m' k. options_of m m' (delivers_same at b (meaning m.course.handler) m m' k)) x y d r
 
 stores : {H : Type 0} (meaning : H → Meaning) (asks : Option Effect) (x y : Invocation H) → StoresIn meaning asks x y → Replays x → Replays y
 stores {H} meaning asks x y h = by (is_some x.ended) h
   where
     in_member : (o : Option (MemberView H)) → x.member ≡ o → StoresInMember meaning asks o x y → Replays x → Replays y
     in_member None is same r = subst Replays (sym same.0) r
-    in_member (Some m) is (m', becomes, does) r = subst (λ (z : Invocation H). ReplaysIn z.member) (sym becomes) (replays_so m m' (happens_setting (meaning m.course.handler) (event.Store 1) m.course.live m.course m'.course does.course) (subst ReplaysIn is r))
+    in_member (Some m) is (m', becomes, does) r = subst (λ (z : Invocation H). ReplaysIn z.member) (sym becomes) (replays_so m m' (options_of m m' (happens_setting (meaning m.course.handler) (event.Store 1) m.course.live m.course m'.course does.course)) (subst ReplaysIn is r))
 
     by : (ended : Bool) → StoresUnless ended meaning asks x y → Replays x → Replays y
     by true same r = subst Replays (sym same.0) r
@@ -136,7 +140,7 @@ adds {H} a b e r = subst ReplaysIn (sym (ap (λ (z : Invocation H). z.member) e)
 
 sends : {H : Type 0} (o : Option ℕ) (sent : Sent) (old new : Engine H) → SendsToPlace o sent old new → AllReplay old → AllReplay new
 sends {H} None sent old new d h = subst AllReplay (sym d) h
-sends {H} (Some place) sent old new d h = member_changes place (λ (a b : MemberView H). b ≡ with_signal sent.signal sent.brings a) old new (λ m m' is. ap (λ (z : MemberView H). z.course.setting) is) d h
+sends {H} (Some place) sent old new d h = member_changes place (λ (a b : MemberView H). b ≡ with_signal sent.signal sent.brings a) old new (λ m m' is. ap (λ (z : MemberView H). z.course.setting.options) is) d h
 
 does_effect : {H : Type 0} (by : ℕ) (asks : Effect) (old new : Engine H) → DoesEffect by asks old new → AllReplay old → AllReplay new
 does_effect by (effect.Wait timer) old new d h = subst AllReplay (sym d) h
@@ -154,7 +158,7 @@ performs by (Some asks) old new d h = does_effect by asks old new d h
 
 begins : {H : Type 0} (may : Bool) (place : ℕ) (old new : Engine H) → BeginsIf may place old new → AllReplay old → AllReplay new
 begins false place old new d h = subst AllReplay (sym d) h
-begins true place old new d h = member_changes place (GoesBy (BeginsRound whole_round)) old new begins_same d h
+begins true place old new d h = member_changes place (GoesBy (BeginsHanded whole_round (base_at old place))) old new (λ m m' k. (begins_leaves whole_round (base_at old place) m.course m'.course k.1).2) d h
 
 delivers_at : {H : Type 0} (meaning : H → Meaning) (place at : ℕ) (o : Option Brought) (old new : Engine H) → DeliversIf meaning place at o old new → AllReplay old → AllReplay new
 delivers_at meaning place at None old new d h = subst AllReplay (sym d) h
@@ -170,10 +174,10 @@ stopped_replays {H} it r = by it.member refl r
 happening_replays : {H : Type 0} (meaning : H → Meaning) (h : Happening) (old new : Engine H) → HappeningDoes meaning h old new → AllReplay old → AllReplay new
 happening_replays meaning (happening.Submit order) old new d r = orders_of (handler_named old.targets.now order.service order.handler) order None d.0 old new d.1 r
 happening_replays meaning (happening.Begin place) old new d r = begins (may_begin old place) place old new d r
-happening_replays meaning (happening.Act place e) old new d r = member_changes place (λ (m : MemberView _). Acts (meaning m.course.handler) e m) old new (λ m m' k. acts_same (meaning m.course.handler) e m m' k) d r
+happening_replays meaning (happening.Act place e) old new d r = member_changes place (λ (m : MemberView _). Acts (meaning m.course.handler) e m) old new (λ m m' k. options_of m m' (acts_same (meaning m.course.handler) e m m' k)) d r
 happening_replays meaning (happening.Deliver place at) old new d r = delivers_at meaning place at (brought_at old place at) old new d r
 happening_replays meaning (happening.Store place) old new d r = performs place d.asks d.mid new d.performs (changes place (StoresIn meaning d.asks) old d.mid (stores meaning d.asks) d.stores r)
-happening_replays meaning (happening.Stop place) old new d r = member_changes place (λ a b. b ≡ stopped a) old new (λ m m' is. ap (λ (z : MemberView _). z.course.setting) is) d r
+happening_replays meaning (happening.Stop place) old new d r = member_changes place (λ a b. b ≡ stopped a) old new (λ m m' is. ap (λ (z : MemberView _). z.course.setting.options) is) d r
 happening_replays meaning happening.StopAll old new d r = record {
   later = subst ReplaysAndQueues (sym (options_same old new d.0)) r.later;
   each = subst (AllByRecursion Replays) (sym d.1) (all_map Replays stopped_in old.invocations.items stopped_replays r.each);

@@ -11,7 +11,6 @@ use Rattle.vm_model.specs.Calls.{Meaning}
 use Rattle.world_rounds.specs.declared.types.Identity.{Identity}
 use Rattle.world_rounds.specs.declared.types.Round.{Round}
 use Rattle.world_rounds.specs.declared.types.Setting.{Setting}
-use Rattle.world_rounds.specs.Course.{BeginsRound}
 use Rattle.journal_store.specs.declared.effect.Beginning.{Beginning}
 use Rattle.journal_store.specs.declared.effect.Effect.{Effect}
 use Rattle.journal_store.specs.declared.effect.Effect.TheVariants as effect
@@ -22,6 +21,7 @@ use Rattle.engines.specs.declared.types.Happening.{Happening}
 use Rattle.engines.specs.declared.types.Happening.TheVariants as happening
 use Rattle.engines.specs.Beginnings.{IsWholeInput, entry_of_input}
 use Rattle.engine_inboxes.specs.Targets.{handler_named}
+use Rattle.engines.specs.HandedOn.{BeginsHanded, base_at}
 use Rattle.engines.specs.Lookups.{brought_for, id_of_place, may_begin, place_of, same_as}
 use Rattle.engines.specs.Members.{Acts, Delivers, GoesBy, MemberView, StoresNextEntry, with_signal, stopped}
 
@@ -143,11 +143,11 @@ Orders order begun place old new =
 abbrev pub whole_round : Round
 whole_round = record { partial = false; keys = []; retry_count = 0; duration = 0; events = [] }
 
--- it begins, if it may
+-- it begins by the state that is handed on to its invocation, if it may
 abbrev pub BeginsIf : {H : Type 0} → Bool → ℕ → Engine H → Engine H → Type 0
 BeginsIf false place old new = new ≡ old
-BeginsIf true place old new = ChangesAt place (MemberGoes (GoesBy (BeginsRound whole_round))) old
-    new
+BeginsIf true place old new = ChangesAt place
+    (MemberGoes (GoesBy (BeginsHanded whole_round (base_at old place)))) old new
 
 -- ---- an entry is stored
 

@@ -1,5 +1,6 @@
 pub mod Members
 pub mod Lookups
+pub mod HandedOn
 pub mod Engines
 pub mod Beginnings
 pub mod Between

@@ -4,6 +4,7 @@ ghost use Rattle.engines.specs.Beginnings.{BeganWithInput, IsPastAll, IsWholeInp
 ghost use Rattle.engines.specs.Engines.{FindsOrMakes, MakesInvocation, Orders, new_identity, whole_round};
 ghost use Rattle.std.specs.List.{list_any};
 ghost use Rattle.engine_inboxes.specs.Targets.{is_text, share, handler_named};
+ghost use Rattle.engines.specs.HandedOn.{base_at, handed_on, left_along, no_values, shares_key, state_left};
 ghost use Rattle.engines.specs.Lookups.{has_turn, id_of_place, is_before, is_kept, is_same, may_begin, place_of, same_as};
 ghost use Rattle.engine_inboxes.specs.Deliverable.{IsUnknownFrom, known_in};
 ghost use Rattle.engine_inboxes.specs.Faults.{IsMemoryOrFull};
@@ -15,7 +16,7 @@ use journal_protocol::{ValueOrFailure, Version};
 use plain::{Items, Text};
 use std::alloc::{AllocError, Global};
 use vm_types::{Handler, VMOptions};
-use world_rounds::{Course, Identity, Round, World};
+use world_rounds::{Course, Identity, Round, Values, World};
 
 /// An invocation among others.
 pub struct Invocation<'a, H: Handler> {
@@ -373,11 +374,18 @@ impl<'a, H: Handler + Drop> Engine<'a, H> {
         }
     }
 
+    /// Whether both are of exclusive handlers of one service, and of one key.
+    fn shares_key(&self, own: &Invocation<'a, H>, it: &Invocation<'a, H>) -> bool
+        ensures { result ≡ shares_key self.now.targets.now own.now it.now }
+    {
+        it.key == own.key && self.share(it.target, own.target)
+    }
+
     /// Whether an invocation goes on and is of an exclusive handler of the same key.
     fn is_before(&self, own: &Invocation<'a, H>, it: &Invocation<'a, H>) -> bool
         ensures { result ≡ is_before self.now.targets.now own.now it.now }
     {
-        it.ended.is_none() && it.key == own.key && self.share(it.target, own.target)
+        it.ended.is_none() && self.shares_key(own, it)
     }
 
     /// Whether one of these goes on and is of an exclusive handler of the same key.
@@ -407,6 +415,54 @@ impl<'a, H: Handler + Drop> Engine<'a, H> {
         match self.invocations.get(place) {
             Some(it) => it.ended.is_none() && it.begins <= self.clock && self.has_turn(place, it),
             None => false,
+        }
+    }
+
+    /// What an invocation leaves, if it is of the same key.
+    fn leave(
+        &self,
+        own: &Invocation<'a, H>,
+        it: &Invocation<'a, H>,
+        values: &mut Values,
+    ) -> Result<(), AllocError>
+        ensures { OnOk result (values.new
+            ≡ state_left (shares_key self.now.targets.now own.now it.now) it.now values.old) }
+    {
+        if !self.shares_key(own, it) {
+            return Ok(());
+        }
+        match &it.member {
+            None => Ok(()),
+            Some(member) => values.apply_all(self.alloc, member.journal()),
+        }
+    }
+
+    /// What these leave, one after another, if they are of the same key.
+    fn left_along(
+        &self,
+        its: &[Invocation<'a, H>],
+        own: &Invocation<'a, H>,
+    ) -> Result<Values, AllocError>
+        ensures { IfOk result
+            (λ v. v ≡ left_along self.now.targets.now own.now its.now no_values) }
+    {
+        let mut values = Values::new(self.alloc);
+        for it in its {
+            self.leave(own, it, &mut values)?;
+        }
+        Ok(values)
+    }
+
+    /// The values that are handed on to the invocation at this place.
+    pub fn base_at(&self, place: usize) -> Result<Items<(Text, Bytes)>, AllocError>
+        ensures { IfOk result (λ base. base ≡ base_at self.now place) }
+    {
+        match self.invocations.get(place) {
+            None => Ok(Items::new(self.alloc)),
+            Some(own) => {
+                let values = self.left_along(&self.invocations[..place], own)?;
+                values.to_base(self.alloc)
+            }
         }
     }
 }

@@ -52,13 +52,16 @@ impl<'a, H: Handler + Drop> Engine<'a, H> {
         if !self.may_begin(place) {
             return Ok(());
         }
+        let Ok(base) = self.base_at(place) else {
+            return Err(EngineFault::Memory);
+        };
         let Some(it) = self.invocations.get_mut(place) else {
             return Ok(());
         };
         let Some(member) = it.member.take() else {
             return Ok(());
         };
-        match member.begin(&whole_round(self.alloc)) {
+        match member.begin(&whole_round(self.alloc), base) {
             Err(fault) => Err(fault),
             Ok(member) => {
                 it.member = Some(member);

@@ -5,8 +5,9 @@ ghost use Rattle.journal_entries.specs.Arrivals.{arrival_fault, room_fault};
 ghost use Rattle.journal_entries.specs.Entries.{note_in};
 ghost use Rattle.engines.specs.Beginnings.{BeganWithInput, IsPastAll};
 ghost use Rattle.engine_inboxes.specs.Faults.{IsMemoryOrFull, IsNoArrival, fault_of_entry};
+ghost use Rattle.engines.specs.HandedOn.{BeginsHanded, handed_if, has_input_alone};
 ghost use Rattle.engines.specs.Members.{Acts, CantCome, Delivers, GoesBy, IsOwn, MayStoreOne, StoresNextEntry, case_in, with_signal, stopped};
-ghost use Rattle.world_rounds.specs.Course.{BeginsRound, HappensTo};
+ghost use Rattle.world_rounds.specs.Course.{HappensTo};
 ghost use Rattle.world_rounds.specs.Guarantees.{HasOneResultEach, HasRightKinds, IsExactlyOnce, IsReplayable};
 ghost use Rattle.world_rounds.specs.Outside.{AddRunsAlone};
 ghost use Rattle.world_rounds.specs.Rounds.{ReplaysAndQueues};
@@ -18,6 +19,7 @@ use engine_inboxes::{
 };
 use journal_protocol::{Encoder, Message, Notification, NotificationResult, Signal};
 use journal_store::Effect;
+use plain::{Items, Text};
 use std::alloc::{AllocError, Global};
 use std::marker::Model;
 use vm_types::Handler;
@@ -136,6 +138,19 @@ fn stored_at(
     }
 }
 
+/// A course of which no attempt lives is handed this state, if no more than its input is stored.
+fn handed<'a, H: Handler>(course: Course<'a, H>, base: Items<(Text, Bytes)>) -> Course<'a, H>
+    requires none { course.live ≡ None }
+    requires given { course.given ≡ 1 }
+    ensures { result ≡ handed_if (has_input_alone course.entry) base course.entry }
+{
+    if course.journal().len() <= 1 {
+        course.hand(base)
+    } else {
+        course
+    }
+}
+
 /// An event of the attempt's own.
 fn act_in<'a, H: Handler>(
     course: Course<'a, H>,
@@ -215,9 +230,9 @@ impl<'a, H: Handler> Member<'a, H> {
         self.inbox.waiting.as_slice()
     }
 
-    /// A new attempt begins.
-    pub fn begin(self, round: &Round) -> Result<Self, EngineFault>
-        ensures ok { IfOk result (GoesBy (BeginsRound round.now) self.entry) }
+    /// A new attempt begins. If no more than the input is stored, this is the state before any command.
+    pub fn begin(self, round: &Round, base: Items<(Text, Bytes)>) -> Result<Self, EngineFault>
+        ensures ok { IfOk result (GoesBy (BeginsHanded round.now base) self.entry) }
         ensures err { IfErr result IsMemoryOrFull }
     {
         let Member {
@@ -226,7 +241,7 @@ impl<'a, H: Handler> Member<'a, H> {
             inbox,
         } = self;
         // Out of memory is the only fault of a begin.
-        match course.begin(round) {
+        match handed(course.stop(), base).begin(round) {
             Err(_) => Err(EngineFault::Memory),
             Ok(course) => Ok(Member {
                 alloc,

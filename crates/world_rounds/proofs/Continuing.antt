@@ -180,6 +180,12 @@ new_lasts meaning m w journal n desk j count is =
       made = tt;
     })
 
+-- nothing was stored, so all attempts may be made with another setting
+pub hand_lasts : {H : Type 0} (meaning : H → Meaning) (m : Meaning) (w w' : Setting) (given : ℕ) (desk desk' : Desk) (o : Option (AttemptView H)) → length desk.journal ≤ given → desk'.journal ≡ desk.journal → CourseLasts meaning m w given desk o → CourseLasts meaning m w' given desk' None
+hand_lasts meaning m w w' given desk desk' o le same l =
+    let all : given ≡ length desk.journal = omega (arith, le, l.room) in
+    new_lasts meaning m w' desk.journal given desk' l.journal all same
+
 -- rounds that have run keep what rounds keep
 module _ (m : Meaning) (w : Setting) (old new : List (List ℕ)) (j : IsJournal old) (d : AreRun m w old new) where
   pub course_once : IsSoundFor m w old → HasOneResultEach (record { handler = m; setting = w }) new
@@ -200,3 +206,7 @@ pub begins_seen : {H : Type 0} (round : Round) (v : CourseView H) (h : H) (w : S
 begins_seen round v h w given journal journal' live now alloc is same begun =
     subst (λ (x : CourseView _). BeginsRound round x (course_view h w given journal' (Some now))) is
     (record { same = λ i. course_view h w given (same i) (Some now); begun = (alloc, begun) })
+
+pub hand_seen : {H : Type 0} (v : CourseView H) (h : H) (w w' : Setting) (given : ℕ) (journal : List (List ℕ)) (live : Option Now) (base : List (List ℕ × List ℕ)) → course_view h w given journal live ≡ v → live ≡ None → w' ≡ record w { base = base } → course_view h w' given journal None ≡ record v { setting = record v.setting { base = base } }
+hand_seen v h w w' given journal live base is none handed =
+    subst (λ (x : CourseView _). course_view h w' given journal None ≡ record x { setting = record x.setting { base = base } }) is (λ i. course_view h (handed i) given journal (sym none i))

@@ -36,6 +36,10 @@ pairs_in asked ((key, None) ∷ es) = pairs_in asked es
 pairs_in asked ((key, Some value) ∷ es) = cond (asked key) ((key, value)
     ∷ pairs_in asked es) (pairs_in asked es)
 
+-- the keys that have a value, with their values, in order
+abbrev pub values_in : StateMap → List (List ℕ × List ℕ)
+values_in state = pairs_in (λ key. true) state.entries
+
 -- each key is a text
 abbrev pub HaveTextKeys : List (List ℕ × List ℕ) → Type 0
 HaveTextKeys pairs = list_all (λ p. is_utf8 p.0) pairs ≡ true

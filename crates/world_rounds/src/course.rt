@@ -1,5 +1,5 @@
 //! A world whose rounds go on: what happens to it comes one by one, so that many worlds can go on beside each other.
-ghost use Rattle.std.specs.Prelude.{◌≡◌, length, take, None, IfOk, IfErr, is_some};
+ghost use Rattle.std.specs.Prelude.{◌≡◌, ◌≤◌, length, take, None, IfOk, IfErr, is_some};
 ghost use Rattle.vm_attempt.specs.Fixed.{fixed_of};
 ghost use Rattle.journal_entries.specs.declared.fault.JournalFault.TheVariants as journal_fault;
 ghost use Rattle.world_rounds.specs.Guarantees.{HasOneResultEach, HasRightKinds, IsExactlyOnce, IsReplayable};
@@ -18,6 +18,7 @@ use bytes::{Bytes, BytesMut};
 use journal_entries::JournalFault;
 use journal_protocol::{Decoder, Version};
 use journal_store::WholeJournal;
+use plain::{Items, Text};
 use std::alloc::Global;
 use std::marker::Model;
 use vm_attempt::Attempt;
@@ -118,6 +119,32 @@ impl<'a, H: Handler> Course<'a, H> {
         } = world;
         let given = journal.as_slice().len();
         let desk = new_desk(alloc, setting.version, journal, BytesMut::new(alloc));
+        Course {
+            alloc,
+            setting,
+            handler,
+            given,
+            desk,
+            attempt: None,
+        }
+    }
+
+    /// All attempts are made with this state before any command. None lives, and no entry was stored.
+    pub fn hand(self, base: Items<(Text, Bytes)>) -> Self
+        requires none { self.live ≡ None }
+        requires unstored { length self.journal ≤ self.given }
+        ensures { result
+            ≡ record self.entry { setting = record self.entry.setting { base = base } } }
+    {
+        let Course {
+            alloc,
+            mut setting,
+            handler,
+            given,
+            desk,
+            attempt: _,
+        } = self;
+        setting.base = base;
         Course {
             alloc,
             setting,

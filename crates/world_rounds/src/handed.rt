@@ -1,19 +1,16 @@
 //! What a round hands out: its Start message, with the state as the journal's commands have changed it.
-ghost use Rattle.std.specs.Prelude.{◌≡◌, ◌∷◌, [], ◌≤◌, length, IfOk, OnOk};
+ghost use Rattle.std.specs.Prelude.{◌≡◌, ◌≤◌, length, IfOk, OnOk};
 ghost use Rattle.journal_protocol.specs.Frames.{encoding, IsWhole};
 ghost use Rattle.journal_protocol.specs.Message.TheVariants as message;
 ghost use Rattle.vm_state.specs.declared.state_map.StateCoverage.TheVariants.{Complete};
 ghost use Rattle.vm_state.specs.Entries.{entries_of as state_entries};
-ghost use Rattle.vm_model.specs.Moves.{changed_by};
 ghost use Rattle.journal_entries.specs.Arrivals.{most_entries};
-ghost use Rattle.journal_entries.specs.Entries.{said_in};
 ghost use Rattle.world_rounds.specs.States.{HaveTextKeys, pairs_for, state_after};
 ghost use Rattle.world_rounds.specs.Worlds.{start_message, start_of};
 
 use crate::types::{Identity, Round, Setting};
 use crate::values::Values;
 use bytes::Bytes;
-use journal_entries::entry::said_at;
 use journal_protocol::{Encoder, Message, Start};
 use plain::{Items, Text};
 use std::alloc::{AllocError, Global};
@@ -30,29 +27,12 @@ fn base_values(alloc: Global, base: &[(Text, Bytes)]) -> Result<Values, AllocErr
     Ok(values)
 }
 
-/// What an entry changes of the state.
-fn apply(alloc: Global, values: &mut Values, entry: &Bytes) -> Result<(), AllocError>
-    ensures { OnOk result (values.new ≡ changed_by (said_in (entry.now ∷ [])) values.old) }
-{
-    match said_at(alloc, entry) {
-        Err(error) => Err(error),
-        Ok(None) => Ok(()),
-        Ok(Some(command)) => {
-            let changed = values.change(&command);
-            drop(command);
-            changed
-        }
-    }
-}
-
 /// The state after the journal's commands.
 fn values_after(alloc: Global, setting: &Setting, journal: &[Bytes]) -> Result<Values, AllocError>
     ensures { IfOk result (λ v. v ≡ state_after setting.now journal.now) }
 {
     let mut values = base_values(alloc, setting.base.as_slice())?;
-    for entry in journal {
-        apply(alloc, &mut values, entry)?;
-    }
+    values.apply_all(alloc, journal)?;
     Ok(values)
 }
 

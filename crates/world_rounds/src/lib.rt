@@ -26,4 +26,5 @@ pub use placed::{PlacedFault, StoppedRounds};
 pub use played::play_rounds;
 pub use rounds::run_rounds;
 pub use types::{Event, Identity, Report, Round, Setting};
+pub use values::Values;
 pub use world::World;

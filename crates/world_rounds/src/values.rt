@@ -1,12 +1,15 @@
 //! `Values`: a state of which all is known, key by key.
-ghost use Rattle.std.specs.Prelude.{◌≡◌, [], true, IfOk, OnOk};
+ghost use Rattle.std.specs.Prelude.{◌≡◌, [], ◌∷◌, true, IfOk, OnOk};
 ghost use Rattle.std.specs.Str.{is_utf8};
 ghost use Rattle.vm_state.specs.declared.state_map.StateCoverage.TheVariants.{Complete};
 ghost use Rattle.vm_state.specs.States.{state_set, state_cleared, all_cleared};
 ghost use Rattle.vm_asks.specs.Requests.{changed};
-ghost use Rattle.world_rounds.specs.States.{HaveTextKeys, is_asked, is_key_listed, pairs_in};
+ghost use Rattle.vm_model.specs.Moves.{changed_by};
+ghost use Rattle.journal_entries.specs.Entries.{said_in};
+ghost use Rattle.world_rounds.specs.States.{HaveTextKeys, is_asked, is_key_listed, pairs_in, values_in};
 
 use bytes::Bytes;
+use journal_entries::entry::said_at;
 use journal_protocol::Message;
 use plain::{Items, Text, copy_of, is_same};
 use std::alloc::{AllocError, Global};
@@ -105,6 +108,44 @@ impl Values {
             }
             _ => Ok(()),
         }
+    }
+
+    /// What an entry of a journal changes.
+    fn apply(&mut self, alloc: Global, entry: &Bytes) -> Result<(), AllocError>
+        ensures { OnOk result (self.new ≡ changed_by (said_in (entry.now ∷ [])) self.old) }
+    {
+        match said_at(alloc, entry) {
+            Err(error) => Err(error),
+            Ok(None) => Ok(()),
+            Ok(Some(command)) => {
+                let changed = self.change(&command);
+                drop(command);
+                changed
+            }
+        }
+    }
+
+    /// What the commands of a journal change, one after another.
+    pub fn apply_all(&mut self, alloc: Global, journal: &[Bytes]) -> Result<(), AllocError>
+        ensures { OnOk result (self.new ≡ changed_by (said_in journal.now) self.old) }
+    {
+        for entry in journal {
+            self.apply(alloc, entry)?;
+        }
+        Ok(())
+    }
+
+    /// The keys with their values, in order, as the state before any command of another invocation.
+    pub fn to_base(&self, alloc: Global) -> Result<Items<(Text, Bytes)>, AllocError>
+        ensures { IfOk result (λ base. base ≡ values_in self.now) }
+    {
+        let mut base = Items::new(alloc);
+        for (key, value) in self.map.iter() {
+            if let Some(value) = value {
+                base.push((copy_of(key)?, value.clone()?))?;
+            }
+        }
+        Ok(base)
     }
 
     /// The keys that a round asks for, with their values, in order. Each key is a text.

@@ -171,6 +171,78 @@ class Rules(unittest.TestCase):
             check(SCRIPT, more)
 
 
+STATE_SCRIPT = """\
+handler "Key" "one" exclusive
+  get "a"
+  set "a" "1"
+  set "b" ""
+  write_output success "x"
+  end
+handler "Key" "two" exclusive
+  clear "b"
+  get "a"
+  keys
+  write_output success "x"
+  end
+handler "Key" "three"
+  keys
+  write_output success "x"
+  end
+submit "Key" "one" "" key="k"
+submit "Key" "two" "" key="k"
+submit "Key" "two" "" key="l"
+submit "Key" "three" "" key="k"
+settle 9
+"""
+
+STATE_REPORT = """\
+line 17 invocation 0
+line 18 invocation 1
+line 19 invocation 2
+line 20 invocation 3
+invocation 0 "Key" "one" key="k"
+  entry Input
+  entry GetEagerState key="a" result=void
+  entry SetState key="a" value="1"
+  entry SetState key="b"
+  entry Output result=value("x")
+  live
+  result value("x")
+invocation 1 "Key" "two" key="k"
+  entry Input
+  entry ClearState key="b"
+  entry GetEagerState key="a" result=value("1")
+  entry GetEagerStateKeys value=["a"]
+  entry Output result=value("x")
+  live
+  result value("x")
+invocation 2 "Key" "two" key="l"
+  entry Input
+  entry ClearState key="b"
+  entry GetEagerState key="a" result=void
+  entry GetEagerStateKeys value=[]
+  entry Output result=value("x")
+  live
+  result value("x")
+invocation 3 "Key" "three" key="k"
+  entry Input
+  entry GetEagerStateKeys value=[]
+  entry Output result=value("x")
+  live
+  result value("x")
+"""
+
+
+class States(unittest.TestCase):
+    def test_an_invocation_reads_what_those_of_its_key_left(self) -> None:
+        check(STATE_SCRIPT, STATE_REPORT, is_settled=True)
+        reads = '  entry GetEagerState key="a" result=value("1")\n  entry GetEagerStateKeys value=["a"]\n'
+        none = '  entry GetEagerState key="a" result=void\n  entry GetEagerStateKeys value=[]\n'
+        for old, new in ((reads, none), (none, reads), ('value=["a"]', 'value=["a", "b"]')):
+            with self.assertRaisesRegex(Bad, "has the commands"):
+                check(STATE_SCRIPT, STATE_REPORT.replace(old, new))
+
+
 class Reading(unittest.TestCase):
     def test_words(self) -> None:
         self.assertEqual(words_of('call "A b" "h" key="k l" at=3'), ["call", '"A b"', '"h"', 'key="k l"', "at=3"])
@@ -185,7 +257,7 @@ class Reading(unittest.TestCase):
         wanted = 'Call service_name="S" handler_name="h" key="k" idempotency_key="" invocation_id_notification_idx=1 result_completion_id=2'
         self.assertEqual(call.commands[0].format(1, 2), wanted)
         with self.assertRaises(Bad):
-            step_of("keys")
+            step_of("keep")
 
     def test_awakeables(self) -> None:
         self.assertEqual(awakeable_of("sign_1aW52XzAAAAAR"), ("inv_0", 17))

@@ -9,12 +9,16 @@ use Rattle.engine_fences.specs.declared.fences.FencedEngine.{FencedEngine}
 use Rattle.engine_fences.specs.Fences.{AllFenced}
 use Rattle.engine_fences.specs.Causes.{InboxesHaveCauses}
 use Rattle.engine_fences.specs.Completions.{CompletionsAreAskedFor, CompletionsAreOwn}
+use Rattle.engine_fences.specs.KeyStates.{StatesAreHandedOn}
 use Rattle.engine_fences.specs.Signals.{NoneFromNowhere}
-use Rattle.engine_fences.proofs.Unseen.{fenced_completions, fenced_inboxes, fenced_kept, fenced_own, fenced_signals}
+use Rattle.engine_fences.proofs.Unseen.{fenced_completions, fenced_inboxes, fenced_kept, fenced_own, fenced_signals, fenced_states}
 use Rattle.engine_fences.proofs.fences.play_fenced.Goals as goal
 
 pub returns-clause-kept : goal.returns-clause-kept
 returns-clause-kept g c = if_ok_then c.run_fenced.result (AllFenced (λ h. g.H.Handler.meaning h) c.args.events.now c.of.result) (λ (f : FencedEngine _). AllKept f.engine) (λ f d. fenced_kept (λ h. g.H.Handler.meaning h) c.args.events.now c.of.result f (ap (λ (e : Engine _). e.invocations.items) c.of.ensures ∙ c.new-engine.ensures.none) d) c.run_fenced.ensures.does
+
+pub returns-clause-states : goal.returns-clause-states
+returns-clause-states g c = if_ok_then c.run_fenced.result (AllFenced (λ h. g.H.Handler.meaning h) c.args.events.now c.of.result) (λ (f : FencedEngine _). StatesAreHandedOn f.engine) (λ f d. fenced_states (λ h. g.H.Handler.meaning h) c.args.events.now c.of.result f (ap (λ (e : Engine _). e.invocations.items) c.of.ensures ∙ c.new-engine.ensures.none) d) c.run_fenced.ensures.does
 
 pub returns-clause-signals : goal.returns-clause-signals
 returns-clause-signals g c = if_ok_then c.run_fenced.result (AllFenced (λ h. g.H.Handler.meaning h) c.args.events.now c.of.result) (λ (f : FencedEngine _). NoneFromNowhere f.engine) (λ f d. fenced_signals (λ h. g.H.Handler.meaning h) c.args.events.now c.of.result f (ap (λ (e : Engine _). e.invocations.items) c.of.ensures ∙ c.new-engine.ensures.none) d) c.run_fenced.ensures.does
