@@ -206,13 +206,12 @@ def case_names(found: list[Token], at: int) -> list[str]:
 
 
 NO_WORD = re.compile(r"-?[\d_]+|«.*»")
+NOTHING = Token("mark", "", 0)  # before the first token, and after the last
 
 
 def cited(found: list[Token]) -> Iterator[tuple[Token, str | None]]:
     """Yields the words that are cited, each with the member after it; but for fields and arguments by name, as in `{ x = e }`."""
-    for at, token in enumerate(found):
-        after = found[at + 1] if at + 1 < len(found) else Token("mark", "", 0)
-        before = found[at - 1] if at else Token("mark", "", 0)
+    for before, token, after in zip([NOTHING, *found], found, [*found[1:], NOTHING]):
         is_set = before.kind == "mark" and before.text in {"{", ";"} and after.text == "=" and after.kind == "name"
         if token.kind == "name" and not is_set and not NO_WORD.fullmatch(token.text):
             yield token, after.text[1:] if after.kind == "member" else None
@@ -255,6 +254,6 @@ def blocks_of(code: str) -> Iterator[tuple[int, int]]:
             yield opened.pop(), match.start()
 
 
-def is_seen(at: int, around: list[tuple[int, int]], blocks: list[tuple[int, int]]) -> bool:
-    """Says whether what is imported at an index is seen where these blocks are around."""
-    return all(block in around for block in blocks if block[0] < at < block[1])
+def blocks_around(at: int, blocks: list[tuple[int, int]]) -> list[tuple[int, int]]:
+    """Returns the blocks around an index, in their order. What is imported there is seen where all of them are around."""
+    return [it for it in blocks if it[0] < at < it[1]]

@@ -27,7 +27,7 @@ class Place:
     def crate(self) -> str:
         return self.path.parts[1]
 
-    @property
+    @cached_property
     def is_type(self) -> bool:
         return self.path.suffix == ".rt"
 
@@ -88,6 +88,7 @@ class Sources:
         self.files: dict[str, File | None] = {}
         self.found: dict[str, dict[str, Definition]] = {}
         self.places: dict[tuple[str, str | None], Place | None] = {}
+        self.known: dict[Place, Definition] = {}
 
     def file(self, home: str) -> File | None:
         if home not in self.files:
@@ -132,10 +133,12 @@ class Sources:
 
     def definition(self, place: Place) -> Definition:
         """Returns a definition of a file of specs."""
-        home = ".".join(["Rattle", *place.path.with_suffix("").parts[1:]])
-        if home not in self.found:
-            self.found[home] = self.read(home)
-        return self.found[home][place.name]
+        if place not in self.known:
+            home = ".".join(["Rattle", *place.path.with_suffix("").parts[1:]])
+            if home not in self.found:
+                self.found[home] = self.read(home)
+            self.known[place] = self.found[home][place.name]
+        return self.known[place]
 
     def read(self, home: str) -> dict[str, Definition]:
         """Returns the definitions of a file of specs by their names."""

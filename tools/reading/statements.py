@@ -6,7 +6,7 @@ import re
 from collections.abc import Iterator, Mapping
 from dataclasses import dataclass
 
-from tools.checks.clauses import WORDS, Import, bare, blocks_of, bound, cited, ghost_parts, imports, is_seen, parameters, tokens
+from tools.checks.clauses import WORDS, Import, bare, blocks_around, blocks_of, bound, cited, ghost_parts, imports, parameters, tokens
 from tools.checks.theorems import Theorem, header_of
 
 from .definitions import Place, Sources, operators_of
@@ -47,11 +47,12 @@ def read(sources: Sources, source: str, start: int, end: int) -> Iterator[Stated
     """Yields the clauses that stand between two indexes of a source."""
     text = bare(source, "//")
     blocks = list(blocks_of(re.sub(r"'(?:\\[^']+|[^'\\])'|\"(?:\\.|[^\"\\])*\"", lambda it: "_" * len(it[0]), text)))
+    imported = [(name, it, set(blocks_around(it.at, blocks))) for name, it in imports(text, True)]
     for first, last in ghost_parts(text):
         head = CLAUSE.search(text[max(0, first - 80) : first])
         if head and start <= first < end:
-            around = [it for it in blocks if it[0] < first < it[1]]
-            seen = {name: it for name, it in imports(text, True) if is_seen(it.at, around, blocks)}
+            around = blocks_around(first, blocks)
+            seen = {name: it for name, it, of_it in imported if of_it.issubset(around)}
             cites = tuple(mentioned(sources, text[first:last], parameters(text, first), seen))
             yield Stated(head[1], head[2].strip(), max(0, first - 80) + head.start(), inside(source[first:last]), cites)
 

@@ -24,9 +24,11 @@ import emptying  # noqa: E402
 import needs  # noqa: E402
 import postgres  # noqa: E402
 import runtime_app  # noqa: E402
+from palqytun import testing  # noqa: E402
 from palqytun.runtime import desk, journal  # noqa: E402
 from emptying import patient  # noqa: E402, F401
 from palqytun.runtime.database import postgres as server  # noqa: E402
+from palqytun.runtime.database.sqlite import SQLite  # noqa: E402
 from palqytun.runtime.engine import Engine  # noqa: E402
 from palqytun.runtime.invocations import New  # noqa: E402
 
@@ -34,6 +36,21 @@ IDLE = float(os.environ.get("PALQYTUN_TEST_IDLE", 0))
 LONG = 300.0  # seconds after which a test that waits has failed, however busy its host is
 LEASE = 60.0  # seconds; a host that stands still for a while makes no dead worker of one that lives
 server._PATIENCE = desk._ANSWERED = LONG  # nor a database that doesn't reply
+
+
+@functools.cache
+def migrated():
+    """A database in memory that was made by all migrations."""
+    return SQLite(":memory:")
+
+
+def copied(memory):
+    """Makes a database in memory as a copy of one that was migrated. A test that lets a handler die at each commit has a hundred, and a seventh of its time
+    would be for their migrations; test_migrations has these."""
+    migrated()._connection.backup(memory._connection)
+
+
+testing._Memory._migrate = copied
 
 
 def emptied(kind, folder):
