@@ -131,6 +131,20 @@ class Players(unittest.TestCase):
         self.assertEqual(self.played("print('ok a:0')"), (1, 1))
         self.assertEqual(self.played("print('ok a:0\\nok a:1'); raise SystemExit(3)"), (2, 1))
 
+    def test_a_suite_that_was_written(self) -> None:
+        """It is played as it stands; one that isn't there is no suite."""
+        room = self.enterContext(tempfile.TemporaryDirectory())
+        written, player = Path(room, "suite.jsonl"), Path(room, "player.py")
+        written.write_text('{"row":"a:1"}\n{"row":"a:2"}\n{"row":"a:3"}\n')
+        player.write_text("import json, sys\nfor it in sys.stdin: print('ok', json.loads(it)['row'])")
+        self.enterContext(mock.patch.dict("os.environ", {command.WRITTEN: str(written)}))
+        said = self.enterContext(mock.patch("builtins.print"))
+        self.assertEqual(command.main([f"{sys.executable} {player}"]), 0)
+        self.assertEqual(said.call_args.args, ("3 passed, 0 failed",))
+        written.unlink()
+        with self.assertRaises(FileNotFoundError):
+            command.main([f"{sys.executable} {player}"])
+
 
 if __name__ == "__main__":
     unittest.main()
