@@ -9,42 +9,11 @@
 
 enum { HEAD = 10, SHOWN = 120, TEXT = SHOWN + 8 };
 
-/* What each command is that has a message, by the type of that. */
-static const struct {
-    bool is_command;
-    uint8_t command;
-} MESSAGES[] = {
-    [PALQYTUN_MESSAGE_INPUT_COMMAND] = {true, PALQYTUN_COMMAND_INPUT},
-    [PALQYTUN_MESSAGE_GET_EAGER_STATE_COMMAND] = {true, PALQYTUN_COMMAND_GET_STATE},
-    [PALQYTUN_MESSAGE_GET_LAZY_STATE_COMMAND] = {true, PALQYTUN_COMMAND_GET_STATE},
-    [PALQYTUN_MESSAGE_GET_EAGER_STATE_KEYS_COMMAND] = {true, PALQYTUN_COMMAND_GET_STATE_KEYS},
-    [PALQYTUN_MESSAGE_GET_LAZY_STATE_KEYS_COMMAND] = {true, PALQYTUN_COMMAND_GET_STATE_KEYS},
-    [PALQYTUN_MESSAGE_SET_STATE_COMMAND] = {true, PALQYTUN_COMMAND_SET_STATE},
-    [PALQYTUN_MESSAGE_CLEAR_STATE_COMMAND] = {true, PALQYTUN_COMMAND_CLEAR_STATE},
-    [PALQYTUN_MESSAGE_CLEAR_ALL_STATE_COMMAND] = {true, PALQYTUN_COMMAND_CLEAR_ALL_STATE},
-    [PALQYTUN_MESSAGE_SLEEP_COMMAND] = {true, PALQYTUN_COMMAND_SLEEP},
-    [PALQYTUN_MESSAGE_CALL_COMMAND] = {true, PALQYTUN_COMMAND_CALL},
-    [PALQYTUN_MESSAGE_ONE_WAY_CALL_COMMAND] = {true, PALQYTUN_COMMAND_ONE_WAY_CALL},
-    [PALQYTUN_MESSAGE_COMPLETE_AWAKEABLE_COMMAND] = {true, PALQYTUN_COMMAND_COMPLETE_AWAKEABLE},
-    [PALQYTUN_MESSAGE_SEND_SIGNAL_COMMAND] = {true, PALQYTUN_COMMAND_SEND_SIGNAL},
-    [PALQYTUN_MESSAGE_GET_PROMISE_COMMAND] = {true, PALQYTUN_COMMAND_GET_PROMISE},
-    [PALQYTUN_MESSAGE_PEEK_PROMISE_COMMAND] = {true, PALQYTUN_COMMAND_PEEK_PROMISE},
-    [PALQYTUN_MESSAGE_COMPLETE_PROMISE_COMMAND] = {true, PALQYTUN_COMMAND_COMPLETE_PROMISE},
-    [PALQYTUN_MESSAGE_RUN_COMMAND] = {true, PALQYTUN_COMMAND_RUN},
-    [PALQYTUN_MESSAGE_ATTACH_INVOCATION_COMMAND] = {true, PALQYTUN_COMMAND_ATTACH_INVOCATION},
-    [PALQYTUN_MESSAGE_GET_INVOCATION_OUTPUT_COMMAND] = {true, PALQYTUN_COMMAND_GET_INVOCATION_OUTPUT},
-    [PALQYTUN_MESSAGE_OUTPUT_COMMAND] = {true, PALQYTUN_COMMAND_OUTPUT},
-};
-
-/* The names of commands, by their numbers. */
-static const char *const NAMES[] = {"Input", "Output", "GetState", "GetStateKeys", "SetState", "ClearState", "ClearAllState", "GetPromise", "PeekPromise",
-    "CompletePromise", "Sleep", "Call", "OneWayCall", "SendSignal", "Run", "AttachInvocation", "GetInvocationOutput", "CompleteAwakeable", "CancelInvocation"};
-
 static const char *const IDS[] = {"invocation_id_notification_idx", "result_completion_id"};
 
 static bool is_command(uint64_t type)
 {
-    return type < sizeof MESSAGES / sizeof *MESSAGES && MESSAGES[type].is_command;
+    return type < MESSAGE_TYPES && MESSAGE_COMMANDS[type].is_command;
 }
 
 /* ---- The commands of a stream */
@@ -64,7 +33,7 @@ static uint32_t type_of(palqytun_bytes frame)
 
 static uint32_t command_of(palqytun_bytes frame)
 {
-    return MESSAGES[type_of(frame)].command;
+    return MESSAGE_COMMANDS[type_of(frame)].command;
 }
 
 /* Takes the next command off the front of a stream of frames, which may end within one. */
@@ -217,9 +186,9 @@ static void differ_in_type(bool is_recorded, uint32_t recorded, bool is_asked, u
 {
     keep_name(&parts[0], "type");
     if (is_recorded)
-        keep_name(&parts[1], NAMES[recorded]);
+        keep_name(&parts[1], COMMAND_NAMES[recorded]);
     if (is_asked)
-        keep_name(&parts[2], NAMES[asked]);
+        keep_name(&parts[2], COMMAND_NAMES[asked]);
 }
 
 /* The same of their ids, of which each of the call is greater by `later` in the journal. */
@@ -284,7 +253,7 @@ palqytun_compared palqytun_mismatch(const uint8_t *fed, size_t fed_len, uint32_t
     }
     if (type != 0) {
         it.is_asked = true;
-        it.asked = MESSAGES[type].command;
+        it.asked = MESSAGE_COMMANDS[type].command;
     }
     if (!it.is_recorded && !it.is_asked)
         it.status = PALQYTUN_NO_PART;

@@ -49,4 +49,15 @@ void lend_command(uint32_t *status, const palqytun_command *given, palqytun_comm
 void lend_options(uint32_t *status, const palqytun_options *given, palqytun_options *lent);
 void lend_policy(uint32_t *status, const palqytun_policy *given, palqytun_policy *lent);
 
+/* Whether a message is a command's, and which command that is: a PALQYTUN_COMMAND_. */
+typedef struct {
+    bool is_command;
+    uint8_t command;
+} message_command;
+
+/* The commands of messages by their types, of which there are so many, and the names of commands by their numbers (names.c). */
+extern const message_command MESSAGE_COMMANDS[];
+extern const size_t MESSAGE_TYPES;
+extern const char *const COMMAND_NAMES[];
+
 #endif

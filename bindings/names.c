@@ -1,6 +1,53 @@
 /* What the numbers of palqytun.h say. */
 /* tools/header --write writes this file, from palqytun.h and tools/abi/words.py. */
-#include "palqytun.h"
+#include "handles.h"
+
+const char *const COMMAND_NAMES[] = {
+    [PALQYTUN_COMMAND_INPUT] = "Input",
+    [PALQYTUN_COMMAND_OUTPUT] = "Output",
+    [PALQYTUN_COMMAND_GET_STATE] = "GetState",
+    [PALQYTUN_COMMAND_GET_STATE_KEYS] = "GetStateKeys",
+    [PALQYTUN_COMMAND_SET_STATE] = "SetState",
+    [PALQYTUN_COMMAND_CLEAR_STATE] = "ClearState",
+    [PALQYTUN_COMMAND_CLEAR_ALL_STATE] = "ClearAllState",
+    [PALQYTUN_COMMAND_GET_PROMISE] = "GetPromise",
+    [PALQYTUN_COMMAND_PEEK_PROMISE] = "PeekPromise",
+    [PALQYTUN_COMMAND_COMPLETE_PROMISE] = "CompletePromise",
+    [PALQYTUN_COMMAND_SLEEP] = "Sleep",
+    [PALQYTUN_COMMAND_CALL] = "Call",
+    [PALQYTUN_COMMAND_ONE_WAY_CALL] = "OneWayCall",
+    [PALQYTUN_COMMAND_SEND_SIGNAL] = "SendSignal",
+    [PALQYTUN_COMMAND_RUN] = "Run",
+    [PALQYTUN_COMMAND_ATTACH_INVOCATION] = "AttachInvocation",
+    [PALQYTUN_COMMAND_GET_INVOCATION_OUTPUT] = "GetInvocationOutput",
+    [PALQYTUN_COMMAND_COMPLETE_AWAKEABLE] = "CompleteAwakeable",
+    [PALQYTUN_COMMAND_CANCEL_INVOCATION] = "CancelInvocation",
+};
+
+const message_command MESSAGE_COMMANDS[] = {
+    [10] = {true, PALQYTUN_COMMAND_INPUT},
+    [11] = {true, PALQYTUN_COMMAND_GET_STATE},
+    [12] = {true, PALQYTUN_COMMAND_GET_STATE},
+    [13] = {true, PALQYTUN_COMMAND_GET_STATE_KEYS},
+    [14] = {true, PALQYTUN_COMMAND_GET_STATE_KEYS},
+    [15] = {true, PALQYTUN_COMMAND_SET_STATE},
+    [16] = {true, PALQYTUN_COMMAND_CLEAR_STATE},
+    [17] = {true, PALQYTUN_COMMAND_CLEAR_ALL_STATE},
+    [18] = {true, PALQYTUN_COMMAND_SLEEP},
+    [19] = {true, PALQYTUN_COMMAND_CALL},
+    [20] = {true, PALQYTUN_COMMAND_ONE_WAY_CALL},
+    [21] = {true, PALQYTUN_COMMAND_COMPLETE_AWAKEABLE},
+    [22] = {true, PALQYTUN_COMMAND_SEND_SIGNAL},
+    [23] = {true, PALQYTUN_COMMAND_GET_PROMISE},
+    [24] = {true, PALQYTUN_COMMAND_PEEK_PROMISE},
+    [25] = {true, PALQYTUN_COMMAND_COMPLETE_PROMISE},
+    [26] = {true, PALQYTUN_COMMAND_RUN},
+    [27] = {true, PALQYTUN_COMMAND_ATTACH_INVOCATION},
+    [28] = {true, PALQYTUN_COMMAND_GET_INVOCATION_OUTPUT},
+    [29] = {true, PALQYTUN_COMMAND_OUTPUT},
+};
+
+const size_t MESSAGE_TYPES = sizeof MESSAGE_COMMANDS / sizeof *MESSAGE_COMMANDS;
 
 const char *palqytun_status_name(uint32_t status)
 {
