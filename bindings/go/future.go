@@ -18,7 +18,7 @@ type tree struct {
 func (Handle) isFuture() {}
 func (*tree) isFuture()  {}
 
-func over(kind C.uint32_t, children []Future) Future {
+func treeOver(kind C.uint32_t, children []Future) Future {
 	made := &tree{}
 	for _, child := range children {
 		switch it := child.(type) {
@@ -40,23 +40,23 @@ func over(kind C.uint32_t, children []Future) Future {
 }
 
 // FirstCompleted is awaited until some child has a result.
-func FirstCompleted(children ...Future) Future { return over(C.PALQYTUN_FIRST_COMPLETED, children) }
+func FirstCompleted(children ...Future) Future { return treeOver(C.PALQYTUN_FIRST_COMPLETED, children) }
 
 // AllCompleted is awaited until all children have a result.
-func AllCompleted(children ...Future) Future { return over(C.PALQYTUN_ALL_COMPLETED, children) }
+func AllCompleted(children ...Future) Future { return treeOver(C.PALQYTUN_ALL_COMPLETED, children) }
 
 // FirstSucceededOrAllFailed is awaited until some child succeeds, or all have failed.
 func FirstSucceededOrAllFailed(children ...Future) Future {
-	return over(C.PALQYTUN_FIRST_SUCCEEDED_OR_ALL_FAILED, children)
+	return treeOver(C.PALQYTUN_FIRST_SUCCEEDED_OR_ALL_FAILED, children)
 }
 
 // AllSucceededOrFirstFailed is awaited until all children succeed, or some child has failed.
 func AllSucceededOrFirstFailed(children ...Future) Future {
-	return over(C.PALQYTUN_ALL_SUCCEEDED_OR_FIRST_FAILED, children)
+	return treeOver(C.PALQYTUN_ALL_SUCCEEDED_OR_FIRST_FAILED, children)
 }
 
 // Unknown is some way of the caller's own: asked again at each result of a child.
-func Unknown(children ...Future) Future { return over(C.PALQYTUN_UNKNOWN, children) }
+func Unknown(children ...Future) Future { return treeOver(C.PALQYTUN_UNKNOWN, children) }
 
 // checked refuses what is nil, or has a child that is nil.
 func checked(name string, future Future) error {
