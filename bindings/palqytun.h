@@ -882,7 +882,8 @@ palqytun_compared palqytun_mismatch(const uint8_t *fed, size_t fed_len, uint32_t
    has it, up to 120 characters, and of a type its name. PALQYTUN_NO_PART: a field is at its default, there is no such command, or no field is known to
    differ. asked is what the call writes where nothing is recorded: it is made again, with the same arguments, on a VM of the same version, over a Start
    and an Input alone; the state in Start is partial if is_lazy, and else empty. Without it only types are compared. If ignore_payloads, payloads aren't
-   compared, as in the replay. PALQYTUN_NO_ROOM: len is the length that it needs. PALQYTUN_NO_MEMORY: nothing was written. */
+   compared, as in the replay. PALQYTUN_NOT_A_FRAME: a command can't be read. PALQYTUN_NO_ROOM: len is the length that it needs. PALQYTUN_NO_MEMORY: nothing
+   was written. */
 palqytun_told palqytun_mismatch_part(const uint8_t *fed, size_t fed_len, uint32_t index, uint32_t type, const uint8_t *asked, size_t asked_len,
     bool ignore_payloads, size_t at, uint8_t *out, size_t out_len);
 

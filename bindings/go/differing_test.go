@@ -115,6 +115,24 @@ func TestAnotherCommandAndNone(t *testing.T) {
 	}
 }
 
+func TestWhatIsDoneAfterAnError(t *testing.T) {
+	delay := uint64(500)
+	vm := begun()
+	defer vm.Close()
+	must(0, vm.NotifyError(HandlerError{Code: 418, Message: "no tea", Behavior: ErrorBehaviorPause, NextRetryDelayMillis: &delay}, nil))
+	_, err := vm.SysRun("charge")
+	var found *Error
+	if !errors.As(err, &found) || found.Behavior != ErrorBehaviorPause || found.NextRetryDelayMillis == nil || *found.NextRetryDelayMillis != 500 {
+		t.Error(err)
+	}
+	fails := over(Options{JournalMismatchRetryBehavior: JournalMismatchRetryBehaviorFailTerminally}, sleepLine)
+	defer fails.Close()
+	_, err = fails.SysRun("charge")
+	if !errors.As(err, &found) || found.Behavior != ErrorBehaviorFail || found.NextRetryDelayMillis != nil {
+		t.Error(err)
+	}
+}
+
 func TestWithoutADifference(t *testing.T) {
 	vm := over(Options{}, sleepLine)
 	defer vm.Close()

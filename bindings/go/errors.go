@@ -32,6 +32,9 @@ type Error struct {
 	Stacktrace string
 	// Related is the command that it relates to, or nil.
 	Related *Related
+	// Behavior is what is done after it, and NextRetryDelayMillis the delay of the next try, or nil.
+	Behavior             ErrorBehavior
+	NextRetryDelayMillis *uint64
 	// Difference says in what the call isn't as the journal has it, if the error is about that and the journal was fed to this VM; else nil.
 	Difference *Difference
 	// The kind of the reply, by which a suspension isn't an error with the same code that was handed in.

@@ -544,6 +544,13 @@ func (vm *VM) refusal(call func(it *C.palqytun_replied), of []argument) error {
 	if it.first == 1 {
 		found.Related = &Related{Index: uint32(it.second), Message: MessageType(it.third), Name: texts[2]}
 	}
+	var retry C.palqytun_retry
+	C.pq_next_retry(vm.handle, &retry)
+	found.Behavior = ErrorBehavior(retry.behavior)
+	if retry.has_delay {
+		delay := uint64(retry.delay_millis)
+		found.NextRetryDelayMillis = &delay
+	}
 	if it.kind == C.PALQYTUN_ERROR && !vm.isRefused {
 		vm.isRefused = true
 		vm.difference = vm.differs(found, call, of)

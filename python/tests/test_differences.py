@@ -178,6 +178,38 @@ class Fields(unittest.TestCase):
             self.assertEqual((raised.exception.code, raised.exception.difference), (570, None))
 
 
+class Retries(unittest.TestCase):
+    """What is done after an error."""
+
+    def error(self, vm: VM) -> VMError:
+        with self.assertRaises(VMError) as raised:
+            vm.sys_run("charge")
+        return raised.exception
+
+    def test_of_a_mismatch(self) -> None:
+        for mismatch, behaviour in (("follow", "retry"), ("pause", "pause"), ("fail", "fail")):
+            vm = fed(start(2), input_frame(), sleep_frame(1000, 1), mismatch=mismatch)
+            vm.sys_input()
+            error = self.error(vm)
+            self.assertEqual((error.behaviour, error.delay), (behaviour, None))
+            copied = pickle.loads(pickle.dumps(error))
+            self.assertEqual((copied.behaviour, copied.difference), (behaviour, error.difference))
+
+    def test_of_an_error_that_was_handed_in(self) -> None:
+        vm = begun()
+        vm.notify_error(418, "no tea", behaviour="pause", delay=500)
+        error = self.error(vm)
+        self.assertEqual((error.behaviour, error.delay), ("pause", 500))
+
+    def test_of_lines(self) -> None:
+        """It isn't known."""
+        vm = begun()
+        vm.notify_error(418, "no tea")
+        with self.assertRaises(VMError) as raised:
+            vm.call('run "charge"')
+        self.assertEqual((raised.exception.behaviour, raised.exception.delay), (None, None))
+
+
 class Features(unittest.TestCase):
     """What a call needs that the version hasn't."""
 

@@ -2,8 +2,8 @@
 'use strict';
 
 const path = require('node:path');
-const { LoadError, StatusError, refusal } = require('./errors');
-const { NUMBERS } = require('./abi');
+const { LoadError, StatusError, caseOf, refusal } = require('./errors');
+const { ErrorBehavior, NUMBERS } = require('./abi');
 
 const FILE = path.join(__dirname, '..', 'build', 'palqytun.node');
 
@@ -59,9 +59,11 @@ function made(it, session, status, isHandedIn = false, differs = () => undefined
   if (status !== NUMBERS.REFUSED) throw new StatusError(status);
   const [, kind, isRelated, index, type, code] = it.reply;
   const [message, stacktrace, name] = [0, 1, 2].map((at) => text(it, session, at) ?? '');
+  const retry = it.next_retry(session);
+  const after = { behavior: caseOf(ErrorBehavior, retry.behavior), nextRetryDelayMillis: retry.has_delay === 1 ? retry.delay_millis : undefined };
   const related = isRelated ? { index, type, name } : undefined;
   const difference = kind === NUMBERS.ERROR ? differs(message, related) : undefined;
-  throw refusal(kind, code, message, stacktrace, related, difference, isHandedIn);
+  throw refusal(kind, code, message, stacktrace, related, { difference, ...after }, isHandedIn);
 }
 
 module.exports = { addon, done, made, pairs, part, text, written };

@@ -41,13 +41,15 @@ function described({ code, text, related, difference, isOwn }, names) {
 class VMError extends Error {
   #isOwn;
 
-  constructor(code, text, stacktrace, related, difference, isOwn) {
+  constructor(code, text, stacktrace, related, { difference, behavior, nextRetryDelayMillis }, isOwn) {
     super(described({ code, text, related, difference, isOwn }));
     this.name = new.target.name;
     this.code = code;
     this.text = text;
     this.stacktrace = stacktrace;
     this.related = related;
+    this.behavior = behavior;
+    this.nextRetryDelayMillis = nextRetryDelayMillis;
     this.difference = difference;
     this.#isOwn = isOwn;
   }
@@ -80,10 +82,10 @@ function classOf(kind, code, isHandedIn) {
   return isHandedIn ? VMError : (CLASSES[code] ?? VMError);
 }
 
-function refusal(kind, code, text, stacktrace, related, difference, isHandedIn) {
+function refusal(kind, code, text, stacktrace, related, more, isHandedIn) {
   const known = related && { index: related.index, type: caseOf(MessageType, related.type), name: related.name };
   const made = classOf(kind, code, isHandedIn);
-  return new made(code, text, stacktrace, known, difference, !isHandedIn);
+  return new made(code, text, stacktrace, known, more, !isHandedIn);
 }
 
 module.exports = { Closed, Code, JournalMismatch, LoadError, StatusError, Suspended, VMError, caseOf, refusal };

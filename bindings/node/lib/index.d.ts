@@ -326,6 +326,10 @@ export class VMError extends Error {
   readonly stacktrace: string;
   /** The command that it relates to. */
   readonly related: { index: number; type: MessageType; name: string } | undefined;
+  /** What is done after it. */
+  readonly behavior: ErrorBehavior;
+  /** The delay of the next try. */
+  readonly nextRetryDelayMillis: Millis | undefined;
   /** In what the call isn't as the journal has it, if the error is about that and the journal was fed to this VM. */
   readonly difference: Difference | undefined;
   /** The message by an SDK's own names of commands. */

@@ -71,6 +71,15 @@ test('another command, and an await', () => {
   assert.strictEqual(waits.askedType, undefined);
 });
 
+test('what is done after an error', () => {
+  const vm = begun();
+  vm.notifyError({ code: 418, message: 'no tea', behavior: 'pause', nextRetryDelayMillis: 500 });
+  const error = refusal(() => vm.sysRun('charge'));
+  assert.deepStrictEqual([error.behavior, Number(error.nextRetryDelayMillis)], ['pause', 500]);
+  const other = refusal(() => over([SLEEP], { journalMismatchRetryBehavior: 'failTerminally' }).sysRun('charge'));
+  assert.deepStrictEqual([other.behavior, other.nextRetryDelayMillis], ['fail', undefined]);
+});
+
 test('without a difference', () => {
   const vm = over([SLEEP]);
   vm.notifyError({ code: 570, message: 'CommandTypeMismatchError' });

@@ -58,6 +58,15 @@ class TestDiffering < Minitest::Test
     assert_nil found.asked_type
   end
 
+  def test_what_is_done_after_an_error
+    vm = begun
+    vm.notify_error(HandlerError.new(code: 418, message: "no tea", behavior: :pause, next_retry_delay_millis: 500))
+    error = assert_raises(VMError) { vm.sys_run("charge") }
+    assert_equal [:pause, 500], [error.behavior, error.next_retry_delay_millis]
+    error = assert_raises(JournalMismatch) { over(SLEEP, journal_mismatch_retry_behavior: :fail_terminally).sys_run("charge") }
+    assert_equal [:fail, nil], [error.behavior, error.next_retry_delay_millis]
+  end
+
   def test_without_a_difference
     vm = over(SLEEP)
     vm.notify_error(HandlerError.new(code: 570, message: "CommandTypeMismatchError"))

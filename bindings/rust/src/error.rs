@@ -2,7 +2,7 @@
 
 use crate::differing::Difference;
 use crate::library::LoadError;
-use crate::sys::{self, CommandType, MessageType, Status};
+use crate::sys::{self, CommandType, ErrorBehavior, MessageType, Status};
 use std::fmt;
 
 /// What a call returns.
@@ -62,6 +62,10 @@ pub struct VmError {
     pub stacktrace: String,
     /// The command that it relates to.
     pub related: Option<Related>,
+    /// What is done after it.
+    pub behavior: ErrorBehavior,
+    /// The delay of the next try, in milliseconds.
+    pub next_retry_delay_millis: Option<u64>,
     /// In what the call isn't as the journal has it, if the error is about that and the journal was fed to this VM.
     pub difference: Option<Difference>,
     /// The kind of the reply, by which a suspension isn't an error with the same code that was handed in.

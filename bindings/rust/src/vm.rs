@@ -5,7 +5,7 @@ use crate::error::{ArgumentError, Error, Related, Result, VmError};
 use crate::future::UnresolvedFuture;
 use crate::lent::{self, bytes, optional, text};
 use crate::library::{library, Library};
-use crate::sys::{self, Handle, MessageType, Replied, State, Told};
+use crate::sys::{self, ErrorBehavior, Handle, MessageType, Replied, State, Told};
 use crate::values::{
     Awaited, Awakeable, CallHandles, DeadlineHandles, Failure, HandlerError, Input, InvocationTarget, NonEmptyValue,
     NotificationHandle, Options, PayloadOptions, RelatedCommand, ResponseHead, RetryPolicy, RunHandle, RunResult,
@@ -520,13 +520,27 @@ impl Vm {
         };
         let (message, stacktrace) = (self.text(0)?, self.text(1)?);
         let (code, is_handed_in) = (replied.number as u16, self.failed_by_handed_in && replied.kind == sys::ERROR);
+        // SAFETY: the handle is that of this VM.
+        let retry = unsafe { (self.library.functions.next_retry)(self.handle) };
+        let behavior = ErrorBehavior::of_number(retry.behavior).unwrap_or(ErrorBehavior::Retry);
+        let next_retry_delay_millis = Some(retry.delay_millis).filter(|_| retry.has_delay);
         let difference = if is_failure(replied) {
             self.differs(&message, related.as_ref(), is_unstable, call);
             self.difference.clone()
         } else {
             None
         };
-        Ok(VmError { code, message, stacktrace, related, difference, kind: replied.kind, is_handed_in })
+        Ok(VmError {
+            code,
+            message,
+            stacktrace,
+            related,
+            behavior,
+            next_retry_delay_millis,
+            difference,
+            kind: replied.kind,
+            is_handed_in,
+        })
     }
 
     /// Notes in what the call isn't as recorded that has failed the VM: it is this one, if none had failed it, and the error has this text and related

@@ -95,6 +95,21 @@ fn another_command_and_an_await() {
 }
 
 #[test]
+fn what_is_done_after_an_error() {
+    let mut vm = begun();
+    let error = HandlerError {
+        code: 418,
+        message: "no tea",
+        stacktrace: "",
+        behavior: ErrorBehavior::Pause,
+        next_retry_delay_millis: Some(500),
+    };
+    vm.notify_error(&error, None).unwrap();
+    let error = refusal(vm.sys_run("charge"));
+    assert_eq!((error.behavior, error.next_retry_delay_millis), (ErrorBehavior::Pause, Some(500)));
+}
+
+#[test]
 fn without_a_difference() {
     let mut vm = over(&Options::default(), &[SLEEP]);
     let error = HandlerError {

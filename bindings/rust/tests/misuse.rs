@@ -153,7 +153,10 @@ fn an_error_has_all_its_fields() {
     let target = Target { service: "Greeter", handler: "greet", ..Target::default() };
     let error = vm.sys_call(&target, b"Ada", "call", PayloadOptions::STABLE).unwrap_err();
     assert!(error.is_journal_mismatch());
-    assert_eq!(error.to_string(), r#"570 JournalMismatch: CommandTypeMismatchError: command 1 is recorded as Sleep, and the call makes Call"#);
+    assert_eq!(
+        error.to_string(),
+        r#"570 JournalMismatch: CommandTypeMismatchError: command 1 is recorded as Sleep, and the call makes Call"#
+    );
     let related = error.vm().unwrap().related.clone().unwrap();
     assert_eq!((related.index, related.name.as_str()), (1, "call"));
     assert_eq!(vm.sys_end(), Err(error));

@@ -10,7 +10,7 @@ from palqytun import _abi, _library
 from palqytun._abi import Replied
 from palqytun._answers import pairs
 from palqytun.commands import Related, type_of
-from palqytun.values import VOID, EphemeralReady, ExecuteRun, Failure, Input, InvocationId, Result, Waiting
+from palqytun.values import VOID, Behaviour, EphemeralReady, ExecuteRun, Failure, Input, InvocationId, Result, Waiting
 
 
 class Parts:
@@ -53,6 +53,16 @@ def related_of(replied: Replied, parts: Parts) -> Related | None:
     """The command that an error relates to, if it names one."""
     type = type_of(replied.third)
     return Related(replied.second, type, parts.text(2)) if replied.first and type is not None else None
+
+
+_BEHAVIOURS: tuple[Behaviour, ...] = ("retry", "pause", "fail")
+
+
+def retry_of(retry: _abi.Retry) -> tuple[Behaviour | None, int | None]:
+    """What is done after an error, and the delay of the next try in ms."""
+    if retry.status:
+        return None, None
+    return _BEHAVIOURS[retry.behavior], retry.delay_millis if retry.has_delay else None
 
 
 WAITS = tuple(tuple(Waiting(input=bool(first), run=bool(second)) for second in (0, 1)) for first in (0, 1))

@@ -55,7 +55,7 @@ from palqytun._arguments import (
 from palqytun._abi import Replied
 from palqytun._hastened import hastened
 from palqytun._lines import handed_in, word_of
-from palqytun._replies import Parts, awaited_of, input_of, related_of, result_of
+from palqytun._replies import Parts, awaited_of, input_of, related_of, result_of, retry_of
 from palqytun._words import HANDLE, integer, octets, truth, utf8
 from palqytun.commands import LAST_COMMAND, CommandType, LastCommand, NextCommand, Related, RelatedCommand
 from palqytun.differences import Difference
@@ -364,11 +364,12 @@ class VM:
         if replied.status == _abi.REFUSED:
             text, stack = self._parts.text(0), self._parts.text(1)
             related = related_of(replied, self._parts)
+            retry = retry_of(self._calls["next_retry"](self._session))
             if not self._is_refused and _has_failed(replied):
                 self._is_refused = True
                 with contextlib.suppress(MemoryError):  # then the error says less
                     self._difference = self._differs(text, related, call, is_unstable)
-            raise self._refusal(replied.number, text, is_first, stack, related)
+            raise self._refusal(replied.number, text, is_first, stack, related, retry)
         self._check(replied.status)
         if replied.status == _abi.BAD_TEXT:
             raise BadLine("a text is no UTF-8")
@@ -400,13 +401,21 @@ class VM:
         """Whether by this reply, the last one, the VM has failed by the error that was handed in."""
         return _has_failed(after) and after.number == code and self._parts.data(0) == text
 
-    def _refusal(self, code: int, said: str, is_first: bool, stacktrace: str = "", related: Related | None = None) -> Exception:
+    def _refusal(
+        self,
+        code: int,
+        said: str,
+        is_first: bool,
+        stacktrace: str = "",
+        related: Related | None = None,
+        retry: tuple[Behaviour | None, int | None] = (None, None),
+    ) -> Exception:
         """What a call is refused by: this error. One that was handed in is none of the VM's own, whatever its code."""
         if self._handed_in == code:
-            return VMError(code, said, None, stacktrace, related)
+            return VMError(code, said, None, stacktrace, related, behaviour=retry[0], delay=retry[1])
         if code == Code.INTERNAL and not said:
             return MemoryError("the VM found no memory")
-        return error_of(code, said, self._hint(code, said, is_first), stacktrace, related, self._difference)
+        return error_of(code, said, self._hint(code, said, is_first), stacktrace, related, self._difference, *retry)
 
     def _hint(self, code: int, said: str, is_first: bool) -> str | None:
         """What to call instead of a call that came before the handler's first, or of a first one that came twice; or what is allowed."""

@@ -4,10 +4,14 @@ from __future__ import annotations
 
 import enum
 import functools
+from typing import TYPE_CHECKING
 
 from palqytun import _abi
 from palqytun.commands import NO_NAMES, Names, Related
 from palqytun.differences import Difference
+
+if TYPE_CHECKING:
+    from palqytun.values import Behaviour
 
 _ERRORS = ["BadFrame", "BadLine", "Cancelled", "Closed", "JournalFault", "JournalMismatch", "Suspended", "VMError"]
 __all__ = [*_ERRORS, "Code", "Difference", "Fault", "Related", "error_of", "in_words"]
@@ -61,6 +65,9 @@ class VMError(Exception):
     """An error that the VM returned: its `code`, its `text`, its `stacktrace`, which is empty if there is none, and the command to which it is
     `related`, or `None`. The VM has failed, and returns the same from each later call. By lines of text only code and text are known.
 
+    `behaviour` is what is done after it, `retry`, `pause` or `fail`, and `delay` is that of the next try in ms, or `None`. By lines neither is known, and
+    both are `None`.
+
     `difference` says in what the call isn't as the journal has it, if the error is about that; its text stands in the message. `hint` says what to do
     in its place, if the call came out of order, what is allowed, or which version has what the call needs. Each is `None` if there is none. `is_own` is
     whether the error is the VM's own, and none that was handed in. Only then its code is a `Code`, whose name stands in the message.
@@ -81,6 +88,8 @@ class VMError(Exception):
         *,
         is_own: bool = False,
         difference: Difference | None = None,
+        behaviour: Behaviour | None = None,
+        delay: int | None = None,
     ) -> None:
         self.code = code
         self.text = text
@@ -89,6 +98,8 @@ class VMError(Exception):
         self.related = related
         self.is_own = is_own
         self.difference = difference
+        self.behaviour = behaviour
+        self.delay = delay
         super().__init__(self.in_words())
 
     def in_words(self, names: Names = NO_NAMES) -> str:
@@ -103,7 +114,8 @@ class VMError(Exception):
         return in_words(self.code, self.text, self.is_own) + about + (f" ({self.hint})" if self.hint else "")
 
     def __reduce__(self) -> tuple[object, ...]:
-        made = functools.partial(type(self), is_own=self.is_own, difference=self.difference)
+        named = dict(is_own=self.is_own, difference=self.difference, behaviour=self.behaviour, delay=self.delay)
+        made = functools.partial(type(self), **named)
         return made, (self.code, self.text, self.hint, self.stacktrace, self.related)
 
 
@@ -183,10 +195,13 @@ def error_of(
     stacktrace: str = "",
     related: Related | None = None,
     difference: Difference | None = None,
+    behaviour: Behaviour | None = None,
+    delay: int | None = None,
 ) -> VMError:
     """The VM's own error of this code, by its class.
 
     >>> error_of(598, "ClosedError")
     Closed('598 CLOSED: ClosedError')
     """
-    return _CLASSES.get(code, VMError)(code, text, hint, stacktrace, related, is_own=True, difference=difference)
+    made = _CLASSES.get(code, VMError)
+    return made(code, text, hint, stacktrace, related, is_own=True, difference=difference, behaviour=behaviour, delay=delay)

@@ -32,6 +32,8 @@ module Palqytun
   class VMError < Error
     # In what the call isn't as the journal has it, a Difference, if the error is about that and the journal was fed to this VM.
     attr_reader :difference
+    # What is done after it, as `:retry`, and the delay of the next try, or nil.
+    attr_reader :behavior, :next_retry_delay_millis
     attr_reader :code, :text, :stacktrace, :related
 
     CODES = %i[CODE_BAD_REQUEST CODE_UNSUPPORTED_MEDIA_TYPE CODE_INTERNAL CODE_JOURNAL_MISMATCH CODE_PROTOCOL_VIOLATION CODE_UNSUPPORTED_FEATURE
@@ -39,8 +41,9 @@ module Palqytun
     CONTENT_TYPES = "the content type must be application/vnd.restate.invocation.vN with N from #{ABI::MINIMUM_VERSION} to #{ABI::MAXIMUM_VERSION}".freeze
     private_constant :CODES, :CONTENT_TYPES
 
-    def initialize(code, text, stacktrace, related, difference = nil, own: false)
+    def initialize(code, text, stacktrace, related, difference = nil, behavior = :retry, next_retry_delay_millis = nil, own: false)
       @code, @text, @stacktrace, @related, @difference, @own = code, text, stacktrace, related, difference, own
+      @behavior, @next_retry_delay_millis = behavior, next_retry_delay_millis
       super(in_words)
     end
 

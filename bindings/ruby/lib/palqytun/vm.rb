@@ -296,13 +296,16 @@ module Palqytun
       status, kind, related, index, type, code = replied
       raise StatusError, status unless status == ABI::REFUSED
       known = related == 1 ? Related.new(index, ABI::MESSAGE_TYPE_CASES.key(type), text(2).to_s) : nil
-      said, trace, failed = text(0).to_s, text(1).to_s, failure?(replied)
+      said, trace, failed, retried = text(0).to_s, text(1).to_s, failure?(replied), @ext.pq_next_retry(@handle)
       if failed && !@refused
         @refused = true
         @difference = @replayed&.difference(said, known, name, given) { last_index }
       end
-      raise VMError.of(kind, @failed_by_handed_in, code, said, trace, known, (@difference if failed))
+      raise VMError.of(kind, @failed_by_handed_in, code, said, trace, known, (@difference if failed), *after(retried))
     end
+
+    # What is done after an error, and the delay of the next try, or nil.
+    def after(row) = [ABI::ERROR_BEHAVIOR_CASES.key(row[:behavior]), (row[:delay_millis] if row[:has_delay] == 1)]
 
     def last_index
       it = @ext.pq_last_command_index(@handle)

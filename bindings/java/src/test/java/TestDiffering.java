@@ -80,6 +80,16 @@ public final class TestDiffering {
         Common.equal(null, waits.askedType());
     }
 
+    private static void whatIsDoneAfterAnError() {
+        VM vm = Common.begun();
+        vm.notifyError(HandlerError.of(418, "no tea").with(ErrorBehavior.PAUSE).withNextRetryDelayMillis(500));
+        VMException error = Common.thrown(VMException.class, () -> vm.sysRun("charge"));
+        Common.equal(ErrorBehavior.PAUSE, error.behavior());
+        Common.equal(500L, error.nextRetryDelayMillis().orElseThrow());
+        VM other = over(Options.DEFAULTS.with(JournalMismatchRetryBehavior.FAIL_TERMINALLY), SLEEP);
+        Common.equal(ErrorBehavior.FAIL, Common.thrown(VMException.JournalMismatch.class, () -> other.sysRun("charge")).behavior());
+    }
+
     private static void withoutADifference() {
         VM vm = over(Options.DEFAULTS, SLEEP);
         vm.notifyError(HandlerError.of(570, "CommandTypeMismatchError"));
@@ -105,6 +115,7 @@ public final class TestDiffering {
         Common.test("what replay doesn't compare", TestDiffering::whatReplayDoesNotCompare);
         Common.test("ids follow those before", TestDiffering::idsFollowThoseBefore);
         Common.test("another command, and an await", TestDiffering::anotherCommandAndAnAwait);
+        Common.test("what is done after an error", TestDiffering::whatIsDoneAfterAnError);
         Common.test("without a difference", TestDiffering::withoutADifference);
         Common.test("a long value is shortened", TestDiffering::aLongValueIsShortened);
         Common.end();

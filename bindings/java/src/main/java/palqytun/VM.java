@@ -423,8 +423,10 @@ public final class VM implements AutoCloseable {
         }
         String text = orEmpty(text(0));
         String stacktrace = orEmpty(text(1));
+        long[] retry = (long[]) Calls.next_retry(at());
         Difference found = isFailure(it) ? differs(text, related, call, unstable) : null;
-        throw VMException.of(it[KIND], failedByHandedIn, (int) it[NUMBER], text, stacktrace, related, found);
+        throw VMException.of(it[KIND], failedByHandedIn, (int) it[NUMBER], text, stacktrace, related, found)
+                .before(ErrorBehavior.of(retry[1]), retry[2] == 1 ? Long.valueOf(retry[3]) : null);
     }
 
     /** In what the call isn't as recorded that has failed the VM: it is this one, if none had failed it, and the error has this text and related command. */

@@ -19,6 +19,8 @@ public class VMException extends PalqytunException {
     private final transient Related related;
     private final transient Difference difference;
     private final boolean isOwn;
+    private ErrorBehavior behavior = ErrorBehavior.RETRY;
+    private Long nextRetryDelayMillis;
 
     VMException(int code, String text, String stacktrace, Related related, Difference difference, boolean isOwn) {
         super(described(code, text, isOwn) + about(related, difference, Map.of()), null);
@@ -98,6 +100,23 @@ public class VMException extends PalqytunException {
     /** The command that it relates to. */
     public Optional<Related> related() {
         return Optional.ofNullable(related);
+    }
+
+    /** The same exception, with what is done after it. */
+    VMException before(ErrorBehavior then, Long delayMillis) {
+        behavior = then;
+        nextRetryDelayMillis = delayMillis;
+        return this;
+    }
+
+    /** What is done after it. */
+    public ErrorBehavior behavior() {
+        return behavior;
+    }
+
+    /** The delay of the next try. */
+    public Optional<Long> nextRetryDelayMillis() {
+        return Optional.ofNullable(nextRetryDelayMillis);
     }
 
     /** In what the call isn't as the journal has it, if the error is about that and the journal was fed to this VM. */
