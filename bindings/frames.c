@@ -150,15 +150,17 @@ static int mismatch(void)
     memcpy(fed.bytes + fed.len, recorded.bytes, recorded.len);
     fed.len += recorded.len;
     palqytun_compared types = palqytun_mismatch(fed.bytes, fed.len, 1, PALQYTUN_MESSAGE_CALL_COMMAND);
-    printf("command %" PRIu32 ", and the call makes %" PRIu32 ":", types.recorded, types.asked);
+    written parts[3];
     for (size_t at = 0; at < 3; at++) {
-        uint8_t part[128];
-        palqytun_told told = palqytun_mismatch_part(
-            fed.bytes, fed.len, 1, PALQYTUN_MESSAGE_CALL_COMMAND, asked.bytes, asked.len, false, at, part, sizeof part);
+        palqytun_told told = palqytun_mismatch_part(fed.bytes, fed.len, 1, PALQYTUN_MESSAGE_CALL_COMMAND, asked.bytes, asked.len, false, at,
+            parts[at].bytes, sizeof parts[at].bytes);
         if (told.status != PALQYTUN_DONE)
             return failed(told.status);
-        printf(" %.*s", (int)told.len, (const char *)part);
+        parts[at].len = told.len;
     }
+    printf("command %" PRIu32 ", and the call makes %" PRIu32 ":", types.recorded, types.asked);
+    for (size_t at = 0; at < 3; at++)
+        printf(" %.*s", (int)parts[at].len, (const char *)parts[at].bytes);
     printf("\n");
     return 0;
 }
