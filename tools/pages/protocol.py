@@ -19,7 +19,7 @@ _TYPES = {
     "bigint": "seed epoch before at completes entries run",
     "integer": "exclusive priority most shielded failed retries failures",
     "float8": "lease since now due deadline expires failing_since failed_since",
-    "text[]": "handlers ids paths",
+    "text[]": "full handlers ids paths",
     "bigint[]": "seqs places completions",
     "bytea[]": "frames",
     "text": "worker code serves id service handler key idem parent trace queue queue_key invocation name status error how chain next channel word said path limits first last",

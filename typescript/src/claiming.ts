@@ -123,14 +123,15 @@ class Looking {
     const it = await Room.of(to, queue, claimer.worker, this.left);
     const own = { worker: claimer.worker, code: claimer.code, paths: handlersOf(claimer.services).map(pathOf) };
     const room = it.free;
-    const suspended = this.hasCome && room > 0 ? await to.rows('queue-suspended', { queue: queue.name, ...own, most: room }) : [];
+    const suspended = this.hasCome && room > 0 ? await to.rows('queue-suspended', { queue: queue.name, ...own, full: it.full, most: room }) : [];
     await this.woken(suspended as unknown as readonly Queued[], room, 6, async (row) => {
       if (it.takes(row[5], false)) await this.claims(row[4], row, false);
     });
-    for (const row of await again(to, it, own)) await this.claims(row[4], row, true);
-    const begins = await first(to, it, own);
-    for (const row of begins.rows) await this.claims(row[4], row, true);
-    found.hasMore ||= begins.hasMore;
+    for (const which of [again, first]) {
+      const { rows, hasMore } = await which(to, it, own);
+      for (const row of rows) await this.claims(row[4], row, true);
+      found.hasMore ||= hasMore;
+    }
     if (it.later !== null) found.nextDue = Math.min(it.later, found.nextDue ?? Infinity);
   }
 

@@ -38,6 +38,7 @@ interface Given {
   readonly priority: number;
   readonly limits: string;
   readonly paths: readonly string[];
+  readonly full: readonly string[];
   readonly since: number;
   readonly first: string;
   readonly last: string;
@@ -523,9 +524,12 @@ const STATEMENTS: Readonly<Record<Exclude<StatementName, 'now'>, Does>> = {
   started: (to, it) => (to.starts.put(to.number(), { queue: it.queue ?? '', at: it.now }), changed(1)),
   'queue-suspended': (to, it) => {
     const reached = to.reached();
-    return rows(to.queued(it, 'suspended').filter((one) => reached.has(one.id)).slice(0, it.most).map((one) => inTurn(one, one.suspension, one.shielded)));
+    return rows(to.queued(it, 'suspended').filter((one) => reached.has(one.id) && !it.full.includes(one.queue_key ?? '')).slice(0, it.most).map((one) => inTurn(one, one.suspension, one.shielded)));
   },
-  'queue-again': (to, it) => rows(to.free(to.queued(it, 'ready').filter((one) => one.epoch > 0), it.now).slice(0, it.most).map((one) => inTurn(one))),
+  'queue-again': (to, it) => {
+    const again = to.queued(it, 'ready').filter((one) => one.epoch > 0 && !it.full.includes(one.queue_key ?? ''));
+    return rows(to.free(again, it.now).slice(0, it.most).map((one) => inTurn(one)));
+  },
   'queue-last': (to, it) => rows([[to.queues.get(it.queue ?? '')?.last ?? null]]),
   'queue-keys': queueKeys,
   'queue-first': (to, it) => {

@@ -63,6 +63,12 @@ export class Room {
     return Math.min(this.free, (this.queue.perKey ?? Infinity) - (this.running.get(key) ?? 0));
   }
 
+  /** The keys that have no room: theirs hide no others. */
+  get full(): string[] {
+    const { perKey } = this.queue;
+    return perKey === undefined ? [] : [...this.running].filter(([, many]) => many >= perKey).map(([key]) => key);
+  }
+
   /** Takes an attempt, if there is room for it. */
   takes(key: string, isFirst: boolean): boolean {
     if (this.free <= 0 || this.of(key) <= 0 || (isFirst && this.begins <= 0)) return false;
@@ -73,15 +79,23 @@ export class Room {
   }
 }
 
-/** Ready invocations that have begun before, for which there is room. */
-export async function again(to: Statements, it: Room, { code, paths }: Claiming): Promise<Queued[]> {
-  if (it.free <= 0) return [];
-  const rows = (await to.rows('queue-again', { queue: it.queue.name, paths, code, now: to.now, most: it.free })) as unknown as readonly Queued[];
-  return rows.filter((row) => it.takes(row[5], false));
+/** What can be claimed, and whether there may be more. */
+export interface Claimable {
+  readonly rows: readonly Queued[];
+  readonly hasMore: boolean;
 }
 
-/** Invocations that haven't begun, for which there is room: one of each key in turn. Says whether there may be more. */
-export async function first(to: Statements, it: Room, { code, paths }: Claiming): Promise<{ rows: Queued[]; hasMore: boolean }> {
+/** Ready invocations that have begun before, for which there is room. */
+export async function again(to: Statements, it: Room, { code, paths }: Claiming): Promise<Claimable> {
+  if (it.free <= 0) return { rows: [], hasMore: false };
+  const most = it.free;
+  const found = (await to.rows('queue-again', { queue: it.queue.name, paths, code, now: to.now, full: it.full, most })) as unknown as readonly Queued[];
+  const rows = found.filter((row) => it.takes(row[5], false));
+  return { rows, hasMore: found.length === most && rows.length > 0 };
+}
+
+/** Invocations that haven't begun, for which there is room: one of each key in turn. */
+export async function first(to: Statements, it: Room, { code, paths }: Claiming): Promise<Claimable> {
   const most = Math.min(it.free, it.begins);
   const keys = most > 0 ? await keysOf(to, it.queue.name) : [];
   if (keys.length === 0) return { rows: [], hasMore: false };

@@ -12,7 +12,7 @@ import type { LogOptions } from './log';
 import { Meter } from './metrics';
 import { tell } from './notes';
 import { Postgres } from './postgres';
-import { enter } from './queueing';
+import { enter, handlersOf } from './queueing';
 import { JSON_CODEC } from './sealing';
 import type { Codec } from './sealing';
 import { servesText, servicesOf, versionOf } from './services';
@@ -110,6 +110,7 @@ export class Worker implements Host {
   readonly instead: Host['instead'];
   readonly #options: Required<Omit<WorkerOptions, 'codec' | 'log' | 'services' | 'version'>>;
   readonly #services: ReadonlyMap<string, About>;
+  readonly #hasLimits: boolean;
   readonly #live = new Map<string, Attempt>();
   readonly #effects: Room;
   readonly #pulse = new Int32Array(new SharedArrayBuffer(4));
@@ -135,6 +136,7 @@ export class Worker implements Host {
   constructor(options: WorkerOptions, inside: Inside = {}) {
     checked(options);
     this.#services = servicesOf(options.services);
+    this.#hasLimits = handlersOf(this.#services).some((it) => it.limit !== undefined || it.queue !== undefined);
     this.version = options.version ?? versionOf(this.#services);
     this.codec = options.codec ?? JSON_CODEC;
     this.log = options.log instanceof Log ? options.log : new Log(options.log);
@@ -210,6 +212,12 @@ export class Worker implements Host {
     }
   }
 
+  /** Something can be claimed. If a limit or a queue has room by it, that may be a suspended one for which something came before. */
+  #isReady(): void {
+    this.#hasCome ||= this.#hasLimits;
+    this.#wake(MOMENT);
+  }
+
   /** Something is due at this time, in seconds since the epoch. */
   #wakeAt(due: number): void {
     this.#dueAt = Math.min(this.#dueAt, due);
@@ -226,7 +234,7 @@ export class Worker implements Host {
 
   #heard(word: string): void {
     const [what, ...some] = word.split(' ');
-    if (what === 'ready') this.#wake(MOMENT);
+    if (what === 'ready') this.#isReady();
     else if (what === 'to') some.forEach((it) => this.#touched(it));
     else if (what === 'stopped') some.forEach((it) => this.#live.get(it)?.stop());
     else if (what === 'ended') this.#hears(some);
@@ -396,7 +404,7 @@ export class Worker implements Host {
     for (const one of it.endings.values()) this.meter.ended(one);
     for (const id of it.stopped) this.#live.get(id)?.stop();
     for (const id of it.touched) this.#touched(id);
-    if (it.isReady) this.#wake(MOMENT);
+    if (it.isReady) this.#isReady();
     if (it.due !== undefined) this.#wakeAt(it.due);
     if (it.endings.size > 0) this.#hears([...it.endings.keys()]);
   }

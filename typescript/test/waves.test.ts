@@ -3,7 +3,7 @@
 import assert from 'node:assert/strict';
 import { test } from 'node:test';
 import { frames } from 'palqytun';
-import { Worker, main, race, service, workflow } from '@palqytun/sdk';
+import { Queue, Worker, handler, main, race, service, workflow } from '@palqytun/sdk';
 import type { AnyService, ServiceContext, SharedWorkflowContext, WorkerOptions, WorkflowContext } from '@palqytun/sdk';
 import { LONG, asked, stage, until } from './cluster';
 import { create } from '../invocations';
@@ -22,23 +22,32 @@ const waits = service('Waits', {
   works: async (ctx: ServiceContext, _: null): Promise<unknown> => ctx.run('works', () => new Promise<void>((done) => runs.push(done))),
   hears: async (ctx: ServiceContext, _: null): Promise<unknown> => race([ctx.run('long', () => new Promise<void>((done) => runs.push(done))), ctx.signal<string>('go')]),
 });
+const LANE = new Queue('lane', { concurrency: 3, perKey: 1 });
+const lane = service('Lane', {
+  sleeps: handler(async (ctx: ServiceContext, _: null): Promise<null> => ctx.sleep(FAR), { queue: LANE }),
+  works: handler(async (ctx: ServiceContext, _: null): Promise<unknown> => ctx.run('works', () => new Promise<void>((done) => runs.push(done))), { queue: LANE }),
+});
 const flow = workflow('Flow', {
   main: main(async (ctx: WorkflowContext, _: null): Promise<null> => ctx.promise<null>('never').value()),
   awaits: async (ctx: SharedWorkflowContext, _: null): Promise<null> => ctx.promise<null>('go').value(),
   goes: async (ctx: SharedWorkflowContext, _: null): Promise<null> => ctx.promise<null>('go').resolve(),
 });
 
+/** Makes invocations of a handler. */
+type Send = (path: string, many: number, key?: string, queueKey?: string) => Promise<void>;
+
 /** A worker in memory that doesn't look by itself, until the end of a test. */
-async function inMemory(services: readonly AnyService[], limit: number, does: (memory: Memory, send: (path: string, many: number, key?: string) => Promise<void>) => Promise<void>): Promise<void> {
+async function inMemory(services: readonly AnyService[], limit: number, does: (memory: Memory, send: Send) => Promise<void>): Promise<void> {
   const memory = new Memory();
   const settings = { url: 'postgresql://in-memory', version: 'test', idle: 0, poll: FAR, grace: 1000, stuck: 0, limit, log: { level: 'error' as const } };
   const worker = new InMemory({ ...settings, services }, { place: memory });
   const running = worker.run();
   const maker = { services: servicesOf(services), codec: JSON_CODEC };
   let number = 0;
-  const send = async (path: string, many: number, key = ''): Promise<void> => {
+  const send: Send = async (path, many, key = '', queueKey) => {
     const [name = '', handler = ''] = path.split('/');
-    const rest = { seed: 1n, service: name, handler, key, argument: Buffer.alloc(0), headers: [], idempotencyKey: null, due: null, parent: null, trace: null };
+    const headers: [string, string][] = queueKey === undefined ? [] : [['palqytun-queue-key', queueKey]];
+    const rest = { seed: 1n, service: name, handler, key, argument: Buffer.alloc(0), headers, idempotencyKey: null, due: null, parent: null, trace: null };
     await memory.beside().transact(async (to) => {
       for (let at = 0; at < many; at++) await create(to, maker, { id: `inv_${(number += 1)}`, ...rest });
     });
@@ -51,6 +60,21 @@ async function inMemory(services: readonly AnyService[], limit: number, does: (m
     await running;
   }
 }
+
+test('a key of a queue that is full hides no other, and what came for it goes on once it has room', { timeout: LONG }, async () => {
+  await inMemory([lane], 500, async (memory, send) => {
+    await send('Lane/sleeps', 5, '', 'a');
+    await send('Lane/sleeps', 1, '', 'b');
+    await until(() => count(memory, 'suspended') === 6);
+    await send('Lane/works', 1, '', 'a');
+    await until(() => runs.length === 1);
+    memory.skipped += 2 * FAR;
+    memory.say('ready');
+    await until(() => count(memory, 'done') === 1); // that of the other key
+    for (const done of runs.splice(0)) done();
+    await until(() => count(memory, 'done') === 7);
+  });
+});
 
 const count = (memory: Memory, status: string): number => memory.tables.invocations.where((it) => it.status === status).length;
 

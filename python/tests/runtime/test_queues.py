@@ -7,7 +7,8 @@ import unittest
 import support  # isort: skip
 from support import Runtime
 
-from palqytun.runtime import App, Client, Context, ObjectContext, Queue, Service, TerminalError, VirtualObject, gather, invocations, operate, queues
+from palqytun import frames
+from palqytun.runtime import App, Client, Context, ObjectContext, Queue, Service, TerminalError, VirtualObject, gather, inbox, invocations, journal, operate, queues
 from palqytun.runtime.claiming import Claimer
 from palqytun.runtime.database.plain import Plain
 from palqytun.runtime.invocations import New
@@ -117,6 +118,44 @@ class Limits(OnAConnection):
         self.assertEqual(self.claim(), [])
         self.end(ann[0])
         self.assertEqual(self.claim(), ann[2:3])
+
+    def again(self, *ids):
+        """These are ready, and have begun before."""
+        for id in ids:
+            self.done(lambda db, id=id: db.change("UPDATE invocations SET epoch=1 WHERE id=?", (id,)))
+
+    def wake(self, *ids):
+        """These were suspended, and what they waited for has come."""
+        suspension = frames.frame_of("Suspension future=(kind=FirstCompleted signals=[17])")
+        for id in ids:
+            self.done(lambda db, id=id: db.change("UPDATE invocations SET status='suspended', suspension=?, epoch=1 WHERE id=?", (suspension, id)))
+            self.done(lambda db, id=id: inbox.deliver(db, Outcome(), id, journal.signal(17, journal.void())))
+
+    def test_a_key_that_is_full_hides_no_other(self):
+        """What goes on of a key that has no room, however much it is, keeps nothing of other keys waiting."""
+        for goes_on in (self.again, self.wake):
+            with self.subTest(goes_on.__name__):
+                ann = self.make("keyed", 8, queue_key="ann")
+                self.assertEqual(self.claim(room=2), ann[:2])
+                ben = self.make("keyed", 1, queue_key="ben")
+                goes_on(*ann[2:], *ben)
+                self.assertEqual(self.claim(), ben)
+                self.end(*ann, *ben)
+
+    def test_more_of_a_key_than_it_has_room_for(self):
+        """A claim that has read as much as it might says that there may be more, and the next one finds it; one that takes nothing doesn't say so."""
+        for goes_on in (self.again, self.wake):
+            with self.subTest(goes_on.__name__):
+                ann, ben = self.make("keyed", 8, queue_key="ann"), self.make("keyed", 1, queue_key="ben")
+                goes_on(*ann, *ben)
+                found = self.done(self.workers[0].claim, (), 100)
+                self.assertTrue(found.has_more)
+                claimed = [it.invocation for it in found.claims]
+                for _ in range(5):
+                    found = self.done(self.workers[0].claim, (), 100)
+                    claimed += [it.invocation for it in found.claims]
+                self.assertEqual((len(claimed), set(ben) - set(claimed), found.has_more), (3, set(), False))
+                self.end(*ann, *ben)
 
     def test_keys_have_their_turns(self):
         """However many of one key are there: those of each have a turn before it has its second."""

@@ -229,13 +229,17 @@ class Claimer:
         it = await queueing.room(db, queue, self.worker, most, now)
         rows: list[Any] = []
         if has_fresh and it.free > 0:
-            share = Share(f"queue=? AND {self.own.where}", (queue.name, *self.own.values), it.free)
-            [awake] = await db.several([self._awake(db, share, it.free)])
-            rows = await queueing.taken(db, it, await self._woken(db, awake))
+            (others, full), many = it.others, it.free
+            share = Share(f"queue=? AND {self.own.where}{others}", (queue.name, *self.own.values, *full), many)
+            [awake] = await db.several([self._awake(db, share, many)])
+            woken = await self._woken(db, awake)
+            rows = await queueing.taken(db, it, woken)
+            claims.has_more |= len(awake) == many and len(rows) + len(awake) > len(woken)  # else a claim at once would find the same
         where, values = f"{self.own.where} AND {_IS_FREE}", self.own.values
-        rows += await queueing.again(db, it, where, values, now)
+        again = await queueing.again(db, it, where, values, now)
+        rows += again.rows
         found = await queueing.first(db, it, where, values, now)
-        claims.has_more |= found.has_more
+        claims.has_more |= found.has_more or again.has_more
         if it.later is not None:
             claims.later = it.later if claims.later is None else min(claims.later, it.later)
         return rows + found.rows

@@ -41,6 +41,12 @@ class Room:
         """How many attempts of a key."""
         return self.free if self.queue.per_key is None else min(self.free, self.queue.per_key - self.running[key])
 
+    @property
+    def others(self) -> tuple[str, list[str]]:
+        """The condition of those of keys that have room. Else some of a key that is full would hide all others, as a claim reads so many."""
+        full = [] if self.queue.per_key is None else [key for key, many in self.running.items() if many >= self.queue.per_key]
+        return (f" AND queue_key NOT IN ({','.join('?' * len(full))})" if full else ""), full
+
     def takes(self, key: str, is_first: bool) -> bool:
         """Takes an attempt, if there is room for it."""
         if self.free <= 0 or self.of(key) <= 0 or (is_first and self.begins <= 0):
@@ -85,15 +91,18 @@ async def taken(db: Database, it: Room, rows: list[Any]) -> list[Any]:
     return [row for row in rows if it.takes(keys[row[0]], False)]
 
 
-async def again(db: Database, it: Room, where: str, values: Sequence[object], now: float) -> list[Any]:
+async def again(db: Database, it: Room, where: str, values: Sequence[object], now: float) -> Found:
     """Ready invocations that have begun before, for which there is room. `where` is what the worker may go on with."""
     if it.free <= 0:
-        return []
+        return Found()
+    (others, full), most = it.others, it.free
     sql = (
-        f"SELECT {CLAIMED} FROM invocations AS it WHERE queue=? AND status='ready' AND epoch>0 AND due<=? AND {where}"
+        f"SELECT {CLAIMED} FROM invocations AS it WHERE queue=? AND status='ready' AND epoch>0 AND due<=? AND {where}{others}"
         f" ORDER BY due, seq LIMIT ?{db.skip}"
     )
-    return await taken(db, it, await db.rows(sql, (it.queue.name, now, *values, it.free)))
+    found = await db.rows(sql, (it.queue.name, now, *values, *full, most))
+    rows = await taken(db, it, found)
+    return Found(rows, len(found) == most and bool(rows))
 
 
 async def first(db: Database, it: Room, where: str, values: Sequence[object], now: float) -> Found:
