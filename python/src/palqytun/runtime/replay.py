@@ -224,7 +224,7 @@ def _parted(it: Stored, command: int, context: Context) -> tuple[str | None, Dif
     if context.refused_call is None:
         return _awaited(it, command), None
     detail = parting.parted(it.entries, command, context.refused_call, it.row.version, _begin(it.row))
-    return detail and detail.text, detail
+    return (detail.text if detail else None), detail
 
 
 def _awaited(it: Stored, command: int) -> str | None:
