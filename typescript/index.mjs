@@ -1,6 +1,7 @@
 import sdk from './out/index.js';
 
 export const {
+  BadName,
   BadValue,
   Call,
   Cancelled,

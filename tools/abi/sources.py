@@ -36,7 +36,7 @@ STRUCTS = {
 }
 """The structs that cross, with their names in C."""
 NUMBERS = {"u8": "uint8_t", "u16": "uint16_t", "u32": "uint32_t", "u64": "uint64_t", "usize": "size_t", "bool": "bool"}
-CRATES = ("c_values", "c_sessions", "c_calls", "c_journals", "c_frames")
+CRATES = ("c_values", "c_sessions", "c_calls", "c_journals")
 
 _STRUCT = re.compile(r"#\[repr\(C\)\](?:\s*#\[[^\n]*\]\n)*\s*pub struct (\w+)(?:<'a>)? \{(.*?)\n\}", re.S)
 _FIELD = re.compile(r"^\s*pub(?:\(crate\))? (?!ghost )\w+: (.*),$", re.M)
@@ -118,9 +118,9 @@ TABLES = (
     Table("c_calls/src/making.rt", _of_match("SignalDelivery"), "DELIVERY_"),
     Table("c_calls/src/policies.rt", _of_match("RetryPolicy"), "POLICY_"),
     Table("c_calls/src/invocations.rt", rf"(?P<number>\d+) => match \w+\(.*\n\s*Ok\(\w+\) => Ok\(InvocationTarget::(?P<name>\w+)", "TARGET_"),
-    Table("c_frames/src/numbers.rt", _of_code("InvocationTarget"), "TARGET_"),
+    Table("c_values/src/numbers.rt", _of_code("InvocationTarget"), "TARGET_"),
     Table("c_journals/src/effect.rt", _of_code("EffectKind"), "EFFECT_"),
-    Table("c_frames/src/numbers.rt", _of_code("ErrorBehavior"), "BEHAVIOR_"),
+    Table("c_values/src/numbers.rt", _of_code("ErrorBehavior"), "BEHAVIOR_"),
     Table("journal_errors/src/types.rt", _of_code("MessageType"), "MESSAGE_"),
 )
 CODES = "journal_errors/src/faults.rt"

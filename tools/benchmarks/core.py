@@ -17,15 +17,16 @@ from tools.kit.commands import run
 from tools.kit.errors import Refused
 from tools.kit.progress import Progress
 
-from . import building, measuring, tables
-from .cases import CASES, MOST, NAMES
+from . import building, measuring, profiling, tables
+from .cases import CASES, LONG, MOST, NAMES
 from .measuring import Player, Point, Row, Setting
 
 PAGE = building.TOP / "docs/BENCHMARKS.md"
 LIBRARY = building.TOP / "bindings/out/libpalqytun.so"
-SIZES = (5, 100, 10_000)
+SIZES = {"instructions": (5, 100, 10_000), "heap": (5, 100, 10_000), "time": (5, 100, 10_000, 100_000)}
 SETTINGS = (Setting(cancels=True), Setting(cancels=False))
-WAYS = ("instructions", "heap", "time")
+FEW = 100  # entries of a case whose entries are apart, in a profile
+WAYS = ("instructions", "heap", "profile", "time")
 BESIDE_HEAP = ("allocations", "copies")  # what the same runs count
 
 
@@ -51,12 +52,17 @@ def add(parser: argparse.ArgumentParser) -> None:
     parser.add_argument("--original", type=Path, metavar="FOLDER", help="the folder of the original, shared core 8.2.0; without it Palqytun alone is measured")
     parser.add_argument("--library", type=Path, default=LIBRARY, metavar="FILE", help="Palqytun's library (bindings/out/libpalqytun.so)")
     parser.add_argument("--measure", type=names(WAYS), default=["instructions", "heap"], metavar="WAY,..", help=f"{', '.join(WAYS)}; the first two by default")
-    parser.add_argument("--sizes", type=numbers, default=list(SIZES), metavar="N,..", help="entries of a case (5,100,10000)")
+    parser.add_argument("--sizes", type=numbers, metavar="N,..", help="entries of a case (5,100,10000, and 100000 by the clock); a profile has 10,000")
     parser.add_argument("--cases", type=names(NAMES), default=list(NAMES), metavar="CASE,..", help="these cases alone")
     parser.add_argument("--default-options", action="store_true", help="don't measure with cancellation off too")
     parser.add_argument("--runs", type=int, default=9, metavar="N", help="alternating runs, of which the fastest counts as time (9)")
     parser.add_argument("--jobs", type=int, choices=range(1, 65), default=1, metavar="N", help="points that are measured at a time, but never by the clock (1)")
     parser.add_argument("--write", action="store_true", help="write the tables into docs/BENCHMARKS.md")
+
+
+def counting() -> None:
+    if shutil.which("valgrind") is None:
+        raise Refused("valgrind, which counts instructions, is not on the path; Debian: apt-get install valgrind")
 
 
 def way(name: str, runs: int) -> Callable[[list[Player], Point], Row]:
@@ -65,8 +71,7 @@ def way(name: str, runs: int) -> Callable[[list[Player], Point], Row]:
         return measuring.heap(building.compile_heap())
     if name == "time":
         return measuring.clock(runs)
-    if shutil.which("valgrind") is None:
-        raise Refused("valgrind, which counts instructions, is not on the path; Debian: apt-get install valgrind")
+    counting()
     return measuring.instructions
 
 
@@ -92,12 +97,28 @@ def measure_by(name: str, options: argparse.Namespace, players: list[Player]) ->
     rows, take, figures = [], way(name, options.runs), [it.figure for it in shown(name)]
     print(f"{name}: here / original = ratio{'' if name == 'heap' else ', for an entry'}", flush=True)
     cases = [it for it in CASES if it.name in options.cases]
-    points = measuring.points(cases, options.sizes, SETTINGS[:1] if options.default_options else SETTINGS)
+    points = measuring.points(cases, options.sizes or SIZES[name], SETTINGS[:1] if options.default_options else SETTINGS)
     with ThreadPoolExecutor(1 if name == "time" else options.jobs) as pool:
         for row in pool.map(lambda point: take(measuring.players_of(players, point), point), points):
             print("   ".join([tables.line(row, figures[0]), *(tables.cell(row, it) for it in figures[1:])]), flush=True)
             rows.append(row)
     return rows
+
+
+def profile(options: argparse.Namespace, players: list[Player], commit: str, progress: Progress) -> None:
+    """Says where the instructions of each case go, and prints or writes it. Unless some are chosen, these are the cases with a target."""
+    counting()
+    cases = [it for it in CASES if it.name in options.cases and (it.target is not None or len(options.cases) < len(CASES))]
+    those = [Point(it, FEW if it.apart else min(LONG, it.most), SETTINGS[0]) for it in cases]
+    points = [(player, it) for it in those for player in measuring.players_of(players, it)]
+    with ThreadPoolExecutor(options.jobs) as pool:
+        found = list(pool.map(lambda it: profiling.profile(*it), points))
+    text = tables.profile(found, remark(options, "profile", commit, 0))
+    if options.write:
+        tables.write(PAGE, "profile", text)
+        progress.step(f"the profile stands in {PAGE.relative_to(building.TOP)}")
+    else:
+        print(text)
 
 
 def measure(options: argparse.Namespace) -> None:
@@ -107,8 +128,13 @@ def measure(options: argparse.Namespace) -> None:
     players.append(building.here(options.library))
     commit = builds.commit(building.TOP)  # before a page is written
     for name in options.measure:
+        if name == "profile":
+            profile(options, players, commit, progress)
+            continue
         load = os.getloadavg()[0]
         rows = measure_by(name, options, players)
         for it in shown(name) if options.write else []:
-            tables.write(PAGE, it.name, tables.section(it, rows, remark(options, name, commit, load)))
+            parts = [tables.section(it, rows, remark(options, name, commit, load))]
+            parts += [tables.targets_section(rows)] if name == "instructions" and options.original else []
+            tables.write(PAGE, it.name, "\n\n".join(parts))
             progress.step(f"{it.name} stands in {PAGE.relative_to(building.TOP)}")

@@ -102,12 +102,21 @@ def due(report: Report, script: Script, it: Invocation) -> list[str]:
     return [f"completion({id})" for id, wanted in ids if wanted is not None] + [id for id, _ in waiting_signals(it)]
 
 
+def has_output(outcome: Outcome) -> bool:
+    """Whether a handler comes to its output by what its journal has, so that it waits for nothing."""
+    return any(it.startswith("Output") for it in outcome.commands)
+
+
 def check_settled(script: Script, report: Report) -> None:
-    """Each invocation whose turn it is has stored all commands that its handler can make, and all that waits for it has come."""
+    """Each invocation whose turn it is has ended, unless its handler waits for what isn't there or ends without an output. It has stored all
+    commands that its handler can make, and all that waits for it has come."""
     for it in report.invocations:
         if it.result is not None or it.at > script.clock or any(other.result is None for other in earlier(report, script, it)):
             continue
-        found, wanted = [command.text for command in it.commands()], told(report, script, it).commands
+        outcome = told(report, script, it)
+        if has_output(outcome):
+            raise Bad(f"invocation {it.number} is left behind: its handler waits for nothing, and it hasn't ended")
+        found, wanted = [command.text for command in it.commands()], outcome.commands
         if found != wanted:
             raise Bad(f"invocation {it.number} has the commands {found}, and could have {wanted}")
         if waits := due(report, script, it):

@@ -13,7 +13,7 @@ from collections.abc import Callable
 from dataclasses import dataclass, replace
 from pathlib import Path
 
-from . import counts, evidence
+from . import counts, evidence, tree
 from .environment import TOP, cores, environment, lanes, start_anew
 from .jobs import Done, Job, Runner, total
 from .parts import built, job, library_path, programs, script
@@ -142,7 +142,8 @@ def failovers_patroni(it: Options) -> Job:
 
 
 def hostile(it: Options) -> Job:
-    those = [f"{name}={it.program(name)}" for name in programs()]
+    """On the programs that ./prove builds. LLVM doesn't optimise those of ./test, so on these it takes more than ten minutes."""
+    those = [f"{name}={it.program(name)}" for name in programs() if not tree.promises_nothing(name)]
     return script("hostile", "tools/hostile", *(f"--program={it}" for it in those))
 
 

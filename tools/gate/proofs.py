@@ -6,7 +6,8 @@ from __future__ import annotations
 import json
 import os
 import re
-from collections.abc import Iterable, Mapping
+from collections.abc import Container, Iterable, Mapping
+from contextlib import suppress
 from dataclasses import dataclass, field
 from pathlib import Path
 
@@ -17,6 +18,7 @@ FAILED = re.compile(r"^rt: (\w+) NOT PROVED")
 TESTS = re.compile(r"^rt: (\w+): its tests are ")
 TICKS = os.sysconf("SC_CLK_TCK")
 ENOUGH = 0.9  # of the crates have to have a time before one is foretold
+BEHIND = 15  # the niceness of a process for which the longest chain doesn't wait
 
 
 @dataclass(frozen=True)
@@ -112,6 +114,7 @@ class Processors:
 
     spent: dict[int, tuple[str, float]] = field(default_factory=dict)
     running: set[str] = field(default_factory=set)
+    seen: dict[int, str] = field(default_factory=dict)
 
     def look(self) -> None:
         """Looks at the processes there are. What a process takes after the last look at it isn't counted."""
@@ -119,11 +122,15 @@ class Processors:
         ours = {os.getpid()}
         while more := {pid for pid, (parent, _) in rows.items() if parent in ours and pid not in ours}:
             ours |= more
-        self.running = set()
-        for pid in ours & rows.keys():
-            if name := _crate(pid):
-                self.spent[pid] = (name, rows[pid][1])
-                self.running.add(name)
+        self.seen = {pid: name for pid in ours & rows.keys() if (name := _crate(pid))}
+        self.running = set(self.seen.values())
+        self.spent.update((pid, (name, rows[pid][1])) for pid, name in self.seen.items())
+
+    def put_behind(self, chain: Container[str]) -> None:
+        """Puts the processes that were seen last behind those that work on a crate of this chain. One that has ended meanwhile is left out."""
+        for pid in (pid for pid, name in self.seen.items() if name not in chain):
+            with suppress(OSError):
+                os.setpriority(os.PRIO_PROCESS, pid, max(BEHIND, os.getpriority(os.PRIO_PROCESS, pid)))
 
     def by_crate(self) -> dict[str, float]:
         found: dict[str, float] = {}

@@ -104,6 +104,7 @@ class ShowProofs(Show):
     def __init__(self, those: list[Job], proofs: Proofs, cores: int, is_strict: bool) -> None:
         super().__init__(those, is_strict)
         self.proofs, self.cores, self.processors = proofs, cores, Processors()
+        self.chain = tree.below(proofs.crates, [HEAD] if HEAD in proofs.crates else proofs.crates)
         self.read = {it: 0 for it in (CHAIN, PROOFS)}
         self.looked = 0.0
 
@@ -111,6 +112,7 @@ class ShowProofs(Show):
         if self._proves() and time.monotonic() - self.looked >= LOOK:
             self.looked = time.monotonic()
             self.processors.look()
+            self.processors.put_behind(self.chain)  # either run may have begun a crate of the chain
             self.proofs.spent = self.processors.by_crate()
             self._read()
         super().ticked()

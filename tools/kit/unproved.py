@@ -34,19 +34,16 @@ def _parts(kit: Kit, crates: list[Crate], *more: Path) -> Iterator[str | Path]:
         yield from it.sources()
 
 
-def _compile_library(kit: Kit, crates: Crates, lowered: Path | None, made: Path, progress: Progress) -> None:
+def _compile_library(kit: Kit, crates: Crates, made: Path, progress: Progress) -> None:
     """Makes the object with the functions for C, as an archive of two."""
     ffi = crates["ffi"]
     exports, prototypes = read_exports(ffi.sources()), read_prototypes(HEADERS[-1])
     compare(exports, prototypes)
     with tempfile.TemporaryDirectory(prefix="unproved-") as made_in:
         room = Path(made_in)
-        if lowered is None:
-            write_entry(ffi.folder, exports, room / "entry")
-            progress.step("the crates are lowered to LLVM: a minute or two")
-            module = module_of(crates, kit, CRATE, room / "entry", ffi.uses)
-        else:
-            module = lowered.read_text(encoding="utf-8")
+        write_entry(ffi.folder, exports, room / "entry")
+        progress.step("the crates are lowered to LLVM: a minute or two")
+        module = module_of(crates, kit, CRATE, room / "entry", ffi.uses)
         progress.step("LLVM compiles them: about a minute")
         compile_module(kit, named(module, exports), room / "lowered.o", "-fPIC")
         between = "".join(prototypes[it.name].between() for it in exports)
@@ -63,46 +60,10 @@ def _with_edited(crates: Crates, folder: Path) -> tuple[Crates, list[Crate]]:
     return crates.beside(more), [*programs, *(it for it in more if it.is_program)]
 
 
-def _stamp_of_all(kit: Kit, crates: Crates, made: Path) -> Stamp:
-    """What the module of all programs and the library is made of."""
-    tops = [*(crates[it] for it in crates.programs()), crates["ffi"]]
-    return Stamp(TOP, made, _parts(kit, [*crates.below(uses_of(tops)), *tops], HEADERS[-1], *edited.files()))
-
-
-def _found(kit: Kit, crates: Crates, lowered: Path | None) -> Path | None:
-    """The module of all, if it is asked, as `lower` makes it. It has to be of these sources."""
-    if lowered is not None and not _stamp_of_all(kit, crates, lowered).is_current():
-        raise Refused(f"{lowered} isn't there, or of other sources: `tools/unproved lowered {lowered}` makes it")
-    return lowered
-
-
-def lower(made: Path, progress: Progress) -> bool:
-    """Lowers all programs, that with edits too, and the library to one module: most of what that takes is for the crates that they share. Returns
-    whether it was done."""
-    crates, its_kit = Crates(TOP), kit()
-    made.parent.mkdir(parents=True, exist_ok=True)
-    stamp = _stamp_of_all(its_kit, crates, made)
-    if stamp.is_current():
-        return False
-    stamp.forget()
-    ffi = crates["ffi"]
-    with tempfile.TemporaryDirectory(prefix="unproved-") as made_in:
-        room = Path(made_in)
-        crates, programs = _with_edited(crates, room)
-        write_entry(ffi.folder, read_exports(ffi.sources()), room / "entry")
-        tops = [*programs, Crate(CRATE, ffi.uses, room / "entry")]
-        write_programs(tops, room / ALL)
-        progress.step("the programs and the library are lowered to LLVM: a minute or two")
-        made.write_text(module_of(crates, its_kit, ALL, room / ALL, uses_of(tops)), encoding="utf-8")
-    stamp.keep()
-    return True
-
-
-def build_library(made: Path, progress: Progress, lowered: Path | None = None) -> bool:
-    """Makes the shared object, and the archive beside it, of the module that `lower` has made, or of its own. Returns whether it was compiled."""
+def build_library(made: Path, progress: Progress) -> bool:
+    """Makes the shared object, and the archive beside it. Returns whether it was compiled."""
     need("cc", "ar", "nm", "objcopy")
     crates, its_kit = Crates(TOP), kit()
-    found = _found(its_kit, crates, lowered)
     ffi = crates["ffi"]
     made.parent.mkdir(parents=True, exist_ok=True)
     compiled = made.with_suffix(".lowered.a")
@@ -110,7 +71,7 @@ def build_library(made: Path, progress: Progress, lowered: Path | None = None) -
     is_current = stamp.is_current()
     if not is_current:
         stamp.forget()
-        _compile_library(its_kit, crates, found, compiled, progress)
+        _compile_library(its_kit, crates, compiled, progress)
         stamp.keep()
     archive = made.with_suffix(".a")
     progress.step("the library is linked")
@@ -147,11 +108,10 @@ def build_program(name: str, made: Path, progress: Progress, level: int = 2) -> 
     return True
 
 
-def build_programs(folder: Path, progress: Progress, lowered: Path | None = None) -> bool:
-    """Makes all programs of the repository in a folder, and that with edits, for tests: they are lowered once, and LLVM doesn't optimise them. They are of
-    the module that `lower` has made, or of their own. Returns whether it was compiled."""
+def build_programs(folder: Path, progress: Progress) -> bool:
+    """Makes all programs of the repository in a folder, and that with edits, for tests: they are lowered once, and LLVM doesn't optimise them. Returns
+    whether they were compiled."""
     crates, its_kit = Crates(TOP), kit()
-    found = _found(its_kit, crates, lowered)
     those = [crates[it] for it in crates.programs()]
     folder.mkdir(parents=True, exist_ok=True)
     compiled = folder / f"{ALL}.o"
@@ -162,12 +122,9 @@ def build_programs(folder: Path, progress: Progress, lowered: Path | None = None
         crates, programs = _with_edited(crates, room)
         if not is_current:
             stamp.forget()
-            if found is None:
-                write_programs(programs, room / ALL)
-                progress.step("the programs are lowered to LLVM: a minute or two")
-                module = module_of(crates, its_kit, ALL, room / ALL, uses_of(programs))
-            else:
-                module = found.read_text(encoding="utf-8")
+            write_programs(programs, room / ALL)
+            progress.step("the programs are lowered to LLVM: a minute or two")
+            module = module_of(crates, its_kit, ALL, room / ALL, uses_of(programs))
             progress.step("LLVM compiles them: half a minute")
             compile_module(its_kit, with_starts(module, [it.name for it in programs]), compiled, "-fPIE", level=0)
             stamp.keep()

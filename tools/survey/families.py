@@ -56,7 +56,7 @@ FAMILIES = (
         "c",
         "C",
         "What callers of C and Python hold, and what their calls do. No text is between.",
-        ("c_sessions", "c_calls", "c_journals", "c_frames"),
+        ("c_sessions", "c_calls", "c_journals", "c_values"),
         ("c_*",),
     ),
     Family("ffi", "The library for C", "The functions that callers of C and Python call: by values, and by lines.", ("ffi",)),

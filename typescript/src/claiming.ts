@@ -96,18 +96,26 @@ class Looking {
     if (about !== undefined) await claims(this.to, this.claimer, about, row, this.found, this.live, isReady);
   }
 
-  /** Those of one service, of handlers without a queue, of which so many may begin. */
-  async ofHandlers(service: string, handlers: readonly string[], most: number): Promise<void> {
+  /** Those of one service, of handlers without a queue, of which so many may begin. `lost` are those that have lost their worker: they come by their age. */
+  async ofHandlers(service: string, handlers: readonly string[], most: number, lost: readonly Row[] = []): Promise<void> {
     const { to, found } = this;
     const own = { service, handlers, code: this.claimer.code };
     const before = found.claims.length;
     const left = (): number => Math.min(this.left, most - (found.claims.length - before));
-    if (handlers.length === 0 || left() <= 0) return;
+    if (handlers.length + lost.length === 0 || left() <= 0) return;
     const room = left();
     const suspended = this.hasCome ? await to.rows('suspended', { ...own, most: room }) : [];
     await this.woken(suspended, room, 4, (row) => this.claims(service, row, false));
     const ready = left() > 0 ? await to.rows('ready', { ...own, now: to.now, most: left() }) : [];
-    for (const row of ready) await this.claims(service, row, true);
+    let [taken, ago] = [0, 0];
+    for (const { row, isReady } of byAge(ready, lost)) {
+      ago = found.claims.length;
+      if (left() <= 0) found.isPartial ||= !isReady;
+      else if (isReady) await this.claims(service, row, true);
+      else await this.orphan(service, row);
+      if (!isReady) taken += found.claims.length - ago;
+    }
+    found.isPartial ||= lost.length === room && taken > 0; // if none may go on yet, they are looked at by and by
   }
 
   /** Those of a handler that has a limit. Its row is kept until the commit, so two workers don't count at one time. */
@@ -156,15 +164,14 @@ class Looking {
     return false;
   }
 
-  /** Those whose worker isn't alive. They are counted as running already, so no limit keeps them out. */
-  async orphaned({ name: service, handlers }: About): Promise<void> {
-    const [room, before] = [this.left, this.found.claims.length];
-    if (room <= 0) return;
-    const rows = await this.to.rows('orphaned', { service, handlers: [...handlers.keys()], code: this.claimer.code, most: room });
-    for (const row of rows) {
-      if (!this.live.has(String(row[0])) && (await mayGoOn(this.to, this.claimer, service, row))) await this.claims(service, row, false);
-    }
-    this.found.isPartial ||= rows.length === room && this.found.claims.length > before; // if none may go on yet, they are looked at by and by
+  /** Those whose worker isn't alive, in the order in which they were due. They are counted as running already, so no limit keeps them out. */
+  async orphaned({ name: service, handlers }: About): Promise<readonly Row[]> {
+    return this.left <= 0 ? [] : this.to.rows('orphaned', { service, handlers: [...handlers.keys()], code: this.claimer.code, most: this.left });
+  }
+
+  /** One whose worker isn't alive. */
+  async orphan(service: string, row: Row): Promise<void> {
+    if (!this.live.has(String(row[0])) && (await mayGoOn(this.to, this.claimer, service, row))) await this.claims(service, row, false);
   }
 
   /** Those that have an attempt here, and for which something came. Each word goes to the worker that had the lease as it was sent. */
@@ -172,6 +179,12 @@ class Looking {
     const rows = this.live.size === 0 ? [] : await this.to.rows('reached', { ids: [...this.live] });
     this.found.reached.push(...rows.map(([id]) => String(id)));
   }
+}
+
+/** Ready ones, and those that have lost their worker, in the order in which they were due. Both are in it. */
+function byAge(ready: readonly Row[], lost: readonly Row[]): { row: Row; isReady: boolean }[] {
+  const both = [...lost.map((row) => ({ row, isReady: false })), ...ready.map((row) => ({ row, isReady: true }))];
+  return both.sort((one, other) => (one.row[4] as number) - (other.row[4] as number));
 }
 
 /** Fires the timers that are due, and claims at most `room` invocations that can go on; `live` are those that have an attempt here. */
@@ -186,12 +199,12 @@ export async function look(to: Statements, claimer: Claimer, asked: Asked, live:
   if (asked.isDue) await endLate(to);
   for (const about of claimer.services.values()) {
     const own = [...about.handlers.values()].filter((one) => one.limit === undefined && one.queue === undefined);
-    await it.ofHandlers(about.name, own.map((one) => one.name), Infinity);
+    const lost = asked.isWhole ? await it.orphaned(about) : [];
+    await it.ofHandlers(about.name, own.map((one) => one.name), Infinity, lost);
   }
   const limited = handlers.filter((one) => one.limit !== undefined);
   for (const one of limited.sort((first, second) => (pathOf(first) < pathOf(second) ? -1 : 1))) await it.limited(one);
   for (const queue of queuesOf(claimer.services)) await it.queued(queue);
-  if (asked.isWhole) for (const about of claimer.services.values()) await it.orphaned(about);
   const next = asked.isDue ? (((await to.rows('next', { now: to.now }))[0]?.[0] ?? null) as number | null) : null;
   if (next !== null) found.nextDue = Math.min(next, found.nextDue ?? Infinity);
   found.hasMore ||= found.hasMoreCome || it.left <= 0;
@@ -201,7 +214,7 @@ export async function look(to: Statements, claimer: Claimer, asked: Asked, live:
 
 /** Whether one that was lost with its worker is claimed again. One that ends workers is alone with one, and at last it is paused. */
 async function mayGoOn(to: Statements, claimer: Claimer, service: string, row: Row): Promise<boolean> {
-  const [id, epoch, , , deaths, handler, worker] = row as [string, number, number, string, number, string, string];
+  const [id, epoch, , , , deaths, handler, worker] = row as [string, number, number, string, number, number, string, string];
   const note = (event: Event, error: string): void => to.note({ event, invocation: id, service, handler, attempt: epoch, error });
   const lost = deaths + 1;
   if (lost >= MOST_LOST) {

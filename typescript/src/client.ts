@@ -7,6 +7,7 @@ import type { Ends, Place, Statements, Store } from './tables';
 import { deliver, newest, send } from './delivery';
 import { BadValue, TerminalError } from './errors';
 import { CANCEL, VOID, awakeableOf, failure, failureIn, valueIn } from './frames';
+import { checkedTrace } from './hash';
 import { create } from './invocations';
 import { Log } from './log';
 import { Postgres } from './postgres';
@@ -16,7 +17,7 @@ import { JSON_CODEC } from './sealing';
 import type { Codec } from './sealing';
 import { servicesOf } from './services';
 import type { About, AnyService, Fixed, Handler } from './services';
-import { PAYLOAD, checkName, checkPayload } from './values';
+import { PAYLOAD, checkId, checkName, checkPayload } from './values';
 import type { Parse } from './values';
 
 export interface ClientOptions {
@@ -95,12 +96,15 @@ export class Client {
     const [service = '', handler = ''] = typeof callee === 'string' ? callee.split('/') : [callee.service, callee.name];
     const data = this.codec.encode(argument);
     checkPayload('the argument', data.length, this.payload);
-    if (options.key !== undefined) checkName('the key', options.key);
+    checkName("the service's name", service);
+    checkName("the handler's name", handler);
+    checkName('the key', options.key ?? '');
+    checkName('the idempotency key', options.idempotencyKey ?? '');
+    const [headers, trace] = [withQueue(options.headers, options), checkedTrace(options.headers?.['traceparent'])];
     const { id } = await this.db.transact((to) =>
       create(to, this, {
-        ...this.named(), service, handler, key: options.key ?? '',
-        argument: data, headers: withQueue(options.headers, options), idempotencyKey: options.idempotencyKey ?? null,
-        due: options.delay === undefined ? null : to.now + options.delay / 1000, parent: null, trace: options.headers?.['traceparent'] ?? null,
+        ...this.named(), service, handler, key: options.key ?? '', argument: data, headers, idempotencyKey: options.idempotencyKey ?? null,
+        due: options.delay === undefined ? null : to.now + options.delay / 1000, parent: null, trace,
       }),
     ); // prettier-ignore
     return new Sent<O>(this, id);
@@ -139,11 +143,13 @@ export class Client {
 
   /** @internal */
   async signal(id: string, frame: Uint8Array): Promise<void> {
+    checkId(id);
     await this.db.transact((to) => send(to, id, frame));
   }
 
   /** @internal */
   async result<O>(id: string, wait: number, gives: Parse<O> | undefined): Promise<O> {
+    checkId(id);
     const until = performance.now() + wait;
     for (;;) {
       const ended = this.#hears(id);
@@ -163,7 +169,8 @@ export class Client {
   }
 
   /** The result of one that has ended, as a frame. @internal */
-  look(id: string): Promise<Uint8Array | undefined> {
+  async look(id: string): Promise<Uint8Array | undefined> {
+    checkId(id);
     return this.db.transact((to) => looked(to, id));
   }
 

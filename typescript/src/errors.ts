@@ -20,6 +20,16 @@ export class TerminalError extends Error {
   }
 }
 
+/**
+ * A name, a key or an id that no database can have: it has more than 1,000 bytes in UTF-8, a NUL, or half of a surrogate pair. Nothing was asked of the
+ * database. Its code is 400.
+ */
+export class BadName extends TerminalError {
+  constructor(why: string) {
+    super(why, 400);
+  }
+}
+
 /** The invocation was cancelled. What the handler does then, as undoing what it did, is its own. */
 export class Cancelled extends TerminalError {
   constructor(message = 'cancelled') {

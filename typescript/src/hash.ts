@@ -83,6 +83,11 @@ export interface Trace {
   readonly header: string;
 }
 
+/** The header `traceparent`, if it is one; a wrong one is left out, as the W3C asks. */
+export function checkedTrace(header: string | undefined): string | null {
+  return header !== undefined && TRACEPARENT.test(header) ? header : null;
+}
+
 /** That of an invocation which was made with this header. Without one it begins a trace of its own. */
 export function traceOf(invocation: string, header: string | null): Trace {
   const spanId = blake2b(invocation, 8, 'trace').toString('hex');

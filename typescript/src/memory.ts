@@ -438,7 +438,7 @@ const STATEMENTS: Readonly<Record<Exclude<StatementName, 'now'>, Does>> = {
     to.timers.take((one) => those.has(one.seq));
     return rows(due.map((one) => [one.invocation, one.completes, one.due]));
   },
-  ready: (to, it) => rows(to.free(to.candidates(it, 'ready').filter((one) => one.queue === null), it.now).slice(0, it.most).map((one) => candidate(one))),
+  ready: (to, it) => rows(to.free(to.candidates(it, 'ready').filter((one) => one.queue === null), it.now).slice(0, it.most).map((one) => candidate(one, one.due))),
   suspended: (to, it) => {
     const reached = to.reached();
     return rows(to.candidates(it, 'suspended').filter((one) => one.queue === null && reached.has(one.id)).slice(0, it.most).map((one) => candidate(one, one.suspension, one.shielded)));
@@ -449,7 +449,10 @@ const STATEMENTS: Readonly<Record<Exclude<StatementName, 'now'>, Does>> = {
     for (const one of to.inbox.where(({ seq }) => it.seqs.includes(seq))) to.inbox.put(one.seq, { ...one, fresh: false });
     return changed(it.seqs.length);
   },
-  orphaned: (to, it) => rows(to.candidates(it, 'running').filter((one) => !to.workers.has(one.worker ?? '')).slice(0, it.most).map((one) => candidate(one, one.deaths, one.handler, one.worker))),
+  orphaned: (to, it) => {
+    const lost = to.candidates(it, 'running').filter((one) => !to.workers.has(one.worker ?? ''));
+    return rows(byDue(lost).slice(0, it.most).map((one) => candidate(one, one.due, one.deaths, one.handler, one.worker)));
+  },
   deadly: (to, it) => changed(to.set(it.id, isHeld(it), (one) => ({ status: 'paused', deaths: one.deaths + 1, error: it.error }))),
   lock: (to, it) => {
     const place = placed(it.service, it.key);

@@ -1,7 +1,7 @@
 // tools/protocol --write writes this file, from docs/PROTOCOL.md.
 
 /** The protocol's version, and the schema's. */
-export const VERSION = 10;
+export const VERSION = 11;
 
 /** The statements of the protocol, by their names. */
 export const STATEMENTS = {
@@ -56,7 +56,7 @@ export const STATEMENTS = {
     { text: "INSERT INTO invocations(id, service, handler, key, exclusive, version, idem, seed, status, how, error, due, entries, created, parent, trace, queue_key, priority) VALUES ($1::text, $2::text, $3::text, $4::text, 0, 7, $5::text, $6::bigint, 'paused', 'unserved', $7::text, COALESCE($8::float8, extract(epoch from clock_timestamp())::float8), 1, $9::float8, $10::text, $11::text, $12::text, $13::integer) ON CONFLICT DO NOTHING", names: ["id", "service", "handler", "key", "idem", "seed", "error", "due", "now", "parent", "trace", "queue_key", "priority"] },
   ],
   'unserved': [
-    { text: "SELECT id, service, handler, key, idem, queue_key, due, trace, created FROM invocations WHERE status='paused' AND how='unserved' AND service=$1::text AND handler=ANY($2::text[]) ORDER BY seq LIMIT $3::integer FOR UPDATE SKIP LOCKED", names: ["service", "handlers", "most"] },
+    { text: "SELECT id, service, handler, key, idem, queue_key, due, trace, created FROM invocations WHERE status='paused' AND how='unserved' AND service=$1::text AND handler=ANY($2::text[]) ORDER BY +seq LIMIT $3::integer FOR UPDATE SKIP LOCKED", names: ["service", "handlers", "most"] },
   ],
   'serve': [
     { text: "UPDATE invocations SET status='ready', how=NULL, error=NULL, exclusive=$1::integer, due=$2::float8, deadline=$3::float8, expires=$4::float8, idem=$5::text, queue=$6::text, queue_key=$7::text WHERE id=$8::text", names: ["exclusive", "due", "deadline", "expires", "idem", "queue", "queue_key", "id"] },
@@ -83,7 +83,7 @@ export const STATEMENTS = {
     { text: "UPDATE invocations SET status='done', ended=$1::float8, stopped=$1::float8, how='overdue', result=$2::bytea, failed=$3::integer, error=$4::text WHERE id=$5::text", names: ["now", "result", "failed", "error", "id"] },
   ],
   'ready': [
-    { text: "SELECT id, epoch, exclusive, key FROM invocations AS it WHERE service=$1::text AND handler=ANY($2::text[]) AND (code IS NULL OR code=$3::text) AND status='ready' AND queue IS NULL AND due<=$4::float8 AND (exclusive=0 OR CASE (SELECT holder FROM locks WHERE locks.service=it.service AND locks.key=it.key) WHEN it.id THEN true ELSE NOT EXISTS (SELECT 1 FROM locks WHERE locks.service=it.service AND locks.key=it.key) AND it.seq=(SELECT seq FROM invocations AS first WHERE first.service=it.service AND first.key=it.key AND first.exclusive=1 AND first.status='ready' ORDER BY first.due, first.seq LIMIT 1) END) ORDER BY due, seq LIMIT $5::integer FOR UPDATE SKIP LOCKED", names: ["service", "handlers", "code", "now", "most"] },
+    { text: "SELECT id, epoch, exclusive, key, due FROM invocations AS it WHERE service=$1::text AND handler=ANY($2::text[]) AND (code IS NULL OR code=$3::text) AND status='ready' AND queue IS NULL AND due<=$4::float8 AND (exclusive=0 OR CASE (SELECT holder FROM locks WHERE locks.service=it.service AND locks.key=it.key) WHEN it.id THEN true ELSE NOT EXISTS (SELECT 1 FROM locks WHERE locks.service=it.service AND locks.key=it.key) AND it.seq=(SELECT seq FROM invocations AS first WHERE first.service=it.service AND first.key=it.key AND first.exclusive=1 AND first.status='ready' ORDER BY first.due, first.seq LIMIT 1) END) ORDER BY due, seq LIMIT $5::integer FOR UPDATE SKIP LOCKED", names: ["service", "handlers", "code", "now", "most"] },
   ],
   'suspended': [
     { text: "SELECT id, epoch, exclusive, key, suspension, shielded FROM invocations WHERE service=$1::text AND handler=ANY($2::text[]) AND (code IS NULL OR code=$3::text) AND status='suspended' AND queue IS NULL AND id IN (SELECT invocation FROM inbox WHERE fresh=1) LIMIT $4::integer FOR UPDATE SKIP LOCKED", names: ["service", "handlers", "code", "most"] },
@@ -95,7 +95,7 @@ export const STATEMENTS = {
     { text: "UPDATE inbox SET fresh=0 WHERE invocation=$1::text AND seq=ANY($2::bigint[])", names: ["id", "seqs"] },
   ],
   'orphaned': [
-    { text: "SELECT id, epoch, exclusive, key, deaths, handler, worker FROM invocations WHERE service=$1::text AND handler=ANY($2::text[]) AND (code IS NULL OR code=$3::text) AND status='running' AND worker NOT IN (SELECT id FROM workers WHERE lease>=extract(epoch from clock_timestamp())::float8) LIMIT $4::integer FOR UPDATE SKIP LOCKED", names: ["service", "handlers", "code", "most"] },
+    { text: "SELECT id, epoch, exclusive, key, due, deaths, handler, worker FROM invocations WHERE service=$1::text AND handler=ANY($2::text[]) AND (code IS NULL OR code=$3::text) AND status='running' AND worker NOT IN (SELECT id FROM workers WHERE lease>=extract(epoch from clock_timestamp())::float8) ORDER BY due, seq LIMIT $4::integer FOR UPDATE SKIP LOCKED", names: ["service", "handlers", "code", "most"] },
   ],
   'deadly': [
     { text: "UPDATE invocations SET status='paused', stopped=$1::float8, how='lost', deaths=deaths+1, error=$2::text WHERE id=$3::text AND epoch=$4::bigint AND status='running'", names: ["now", "error", "id", "epoch"] },

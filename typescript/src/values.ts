@@ -1,6 +1,6 @@
 /** Values as bytes: arguments, results and state are JSON in UTF-8, and no bytes stand for null. What JSON can't carry is refused by name. */
 
-import { BadValue, TerminalError, said } from './errors';
+import { BadName, BadValue, TerminalError, said } from './errors';
 
 /** Reads a value as the type that is wanted, or throws. */
 export type Parse<T> = (value: unknown) => T;
@@ -108,13 +108,18 @@ export function decoded<T>(data: Uint8Array, parse?: Parse<T>): T {
   }
 }
 
-/** Throws a `TerminalError` with code 400 if this can't be part of a key of the database. */
+/** Throws a `BadName` if this can't be part of a key of the database. */
 export function checkName(what: string, name: unknown): asserts name is string {
-  if (typeof name !== 'string') throw new TerminalError(`${what} is a text, and not ${name === null ? 'null' : typeof name}`, 400);
-  if (/\p{Surrogate}/u.test(name)) throw new TerminalError(`${what} has half of a surrogate pair, and so no UTF-8`, 400);
+  if (typeof name !== 'string') throw new BadName(`${what} is a text, and not ${name === null ? 'null' : typeof name}`);
+  if (/\p{Surrogate}/u.test(name)) throw new BadName(`${what} has half of a surrogate pair, and so no UTF-8`);
   const length = Buffer.byteLength(name);
-  if (length > LONGEST_NAME) throw new TerminalError(`${what} has ${length} bytes in UTF-8, and ${LONGEST_NAME} are allowed`, 400);
-  if (name.includes('\0')) throw new TerminalError(`${what} has the character NUL, which isn't allowed`, 400);
+  if (length > LONGEST_NAME) throw new BadName(`${what} has ${length} bytes in UTF-8, and ${LONGEST_NAME} are allowed`);
+  if (name.includes('\0')) throw new BadName(`${what} has the character NUL: a name has at most ${LONGEST_NAME} bytes in UTF-8, and no NUL`);
+}
+
+/** Throws a `BadName` if no invocation can have this id. */
+export function checkId(id: unknown): asserts id is string {
+  checkName("the invocation's id", id);
 }
 
 /** The text of an attribute's value; null takes it away. Throws a `TerminalError` with code 400 for a name or a value that is none. */

@@ -4,8 +4,9 @@
 import assert from 'node:assert/strict';
 import { test } from 'node:test';
 import { Journal, StatusError, frames } from 'palqytun';
-import { object, main, service, workflow } from '@palqytun/sdk';
-import type { ObjectContext, ServiceContext, WorkflowContext } from '@palqytun/sdk';
+import { BadName, object, main, service, workflow } from '@palqytun/sdk';
+import type { Client, ObjectContext, ServiceContext, WorkflowContext } from '@palqytun/sdk';
+import { Testing } from '@palqytun/sdk/testing';
 import { LONG, stage, until } from './cluster';
 import { inputCommand } from '../frames';
 import { create } from '../invocations';
@@ -238,10 +239,51 @@ test('a name with NUL names nothing, which no text of the database has', { timeo
   };
   try {
     assert.deepEqual(await result(await on.client.send(given.names, null)), { value: 'there is no such invocation' });
-    assert.deepEqual(await result(await on.client.send(given.sends, null)), { message: "the service's name has the character NUL, which isn't allowed" });
+    assert.deepEqual(await result(await on.client.send(given.sends, null)), { message: "the service's name has the character NUL: a name has at most 1000 bytes in UTF-8, and no NUL" });
     assert.deepEqual(await result(await on.client.send(thing.clears, null, { key: 'k' })), { value: null });
     await assert.rejects(on.client.resolveAwakeable(awakeable(NUL, 17)), { code: 400 });
   } finally {
     await on.end();
   }
+});
+
+const NAMES: [name: string, why: string][] = [
+  ['a\0b', 'has the character NUL: a name has at most 1000 bytes in UTF-8, and no NUL'],
+  ['n'.repeat(1001), 'has 1001 bytes in UTF-8, and 1000 are allowed'],
+  ['\ud800', 'has half of a surrogate pair, and so no UTF-8'],
+];
+
+/** Refuses names before anything is asked of a database that a client has, or of none. */
+async function refusesNames(client: Client): Promise<void> {
+  const trace = '00-0af7651916cd43dd8448eb211c80319c-b7ad6b7169203331-01\0'; // what is no trace is left out
+  await (await client.send(given.names, null, { headers: { traceparent: trace } })).result(LONG);
+  for (const [name, why] of NAMES) {
+    const sent = client.sent(name);
+    const calls: [what: string, call: () => Promise<unknown>][] = [
+      ["the invocation's id", () => sent.result(LONG)],
+      ["the invocation's id", () => sent.cancel()],
+      ["the invocation's id", () => sent.signal('go')],
+      ["the service's name", () => client.send(`${name}/one`, 1)],
+      ["the handler's name", () => client.send(`GivenNul/${name}`, 1)],
+      ['the key', () => client.send(thing.clears, null, { key: name })],
+      ['the idempotency key', () => client.send(given.names, null, { idempotencyKey: name })],
+      ['the queue key', () => client.send(given.names, null, { queueKey: name })],
+    ];
+    for (const [what, call] of calls) {
+      const error: unknown = await call().then(() => undefined, (it: unknown) => it);
+      assert(error instanceof BadName, what);
+      assert.deepEqual([error.code, error.message], [400, `${what} ${why}`]);
+    }
+  }
+}
+
+test('names that no database has are refused by a client, on both databases and before they are asked', { timeout: LONG }, async () => {
+  await Testing.run([given, thing], refusesNames);
+  const on = await stage([given, thing]);
+  try {
+    await refusesNames(on.client);
+  } finally {
+    await on.end();
+  }
+  await assert.rejects(on.client.sent('a\0b').cancel(), BadName); // its connections are closed
 });

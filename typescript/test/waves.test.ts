@@ -3,7 +3,7 @@
 import assert from 'node:assert/strict';
 import { test } from 'node:test';
 import { frames } from 'palqytun';
-import { Queue, Worker, handler, main, race, service, workflow } from '@palqytun/sdk';
+import { Queue, Worker, all, handler, main, race, service, workflow } from '@palqytun/sdk';
 import type { AnyService, ServiceContext, SharedWorkflowContext, WorkerOptions, WorkflowContext } from '@palqytun/sdk';
 import { LONG, asked, stage, until } from './cluster';
 import { create } from '../invocations';
@@ -37,8 +37,7 @@ const flow = workflow('Flow', {
 type Send = (path: string, many: number, key?: string, queueKey?: string) => Promise<void>;
 
 /** A worker in memory that doesn't look by itself, until the end of a test. */
-async function inMemory(services: readonly AnyService[], limit: number, does: (memory: Memory, send: Send) => Promise<void>): Promise<void> {
-  const memory = new Memory();
+async function inMemory(services: readonly AnyService[], limit: number, does: (memory: Memory, send: Send) => Promise<void>, memory = new Memory()): Promise<void> {
   const settings = { url: 'postgresql://in-memory', version: 'test', idle: 0, poll: FAR, grace: 1000, stuck: 0, limit, log: { level: 'error' as const } };
   const worker = new InMemory({ ...settings, services }, { place: memory });
   const running = worker.run();
@@ -110,18 +109,49 @@ test('what is ready while the worker has no room, and looks', { timeout: LONG },
   });
 });
 
+/** An invocation that is due so many milliseconds after 1970, and that a worker which isn't alive had, if it is `lost`. */
+async function made(memory: Memory, id: string, of: AnyService, handler: string, due: number, isLost: boolean): Promise<void> {
+  const services = servicesOf([of]);
+  const [service = ''] = services.keys();
+  const rest = { seed: 1n, service, handler, key: '', headers: [], idempotencyKey: null, parent: null, trace: null };
+  await memory.beside().transact(async (to) => {
+    await create(to, { services, codec: JSON_CODEC }, { id, argument: Buffer.from(JSON.stringify(id)), due: due / 1000, ...rest });
+    if (isLost) await to.change('lease', { id, epoch: 0, worker: 'lost', code: 'test', now: to.now });
+  });
+}
+
 test('those of a worker that is lost', { timeout: LONG }, async () => {
-  await inMemory([waits], 500, async (memory, send) => {
-    await memory.beside().transact(async (to) => {
-      for (let at = 0; at < MANY; at++) {
-        await create(to, { services: servicesOf([waits]), codec: JSON_CODEC }, {
-          id: `inv_lost${at}`, seed: 1n, service: 'Waits', handler: 'sleeps', key: '', argument: Buffer.alloc(0), headers: [], idempotencyKey: null, due: null, parent: null, trace: null,
-        }); // prettier-ignore
-        await to.change('lease', { id: `inv_lost${at}`, epoch: 0, worker: 'lost', code: 'test', now: to.now });
-      }
-    });
-    await send('Waits/sleeps', 1);
-    await until(() => count(memory, 'suspended') === MANY + 1);
+  const memory = new Memory();
+  for (let at = 0; at < MANY; at++) await made(memory, `inv_lost${at}`, waits, 'sleeps', at, true);
+  await inMemory([waits], 500, async () => {
+    await until(() => count(memory, 'suspended') === MANY);
+  }, memory); // prettier-ignore
+});
+
+test('what a worker had that is lost goes on by its age, among what is ready', { timeout: LONG }, async () => {
+  const seen: string[] = [];
+  const ages = service('Ages', { goes: async (ctx: ServiceContext, id: string): Promise<unknown> => ctx.run('goes', () => void seen.push(id)) });
+  const memory = new Memory();
+  for (const at of [2, 5, 8]) await made(memory, `inv_${at}`, ages, 'goes', at, true); // stored before the others, and due between them
+  for (const at of [1, 3, 4, 6, 7, 9]) await made(memory, `inv_${at}`, ages, 'goes', at, false);
+  await inMemory([ages], 2, async () => {
+    await until(() => count(memory, 'done') === 9);
+    const pairs = [0, 2, 4, 6, 8].map((at) => seen.slice(at, at + 2).sort()); // two run side by side
+    assert.deepEqual(pairs.flat(), [1, 2, 3, 4, 5, 6, 7, 8, 9].map((at) => `inv_${at}`));
+  }, memory); // prettier-ignore
+});
+
+test('more timers than one transaction fires', { timeout: LONG }, async () => {
+  const many = 2_300;
+  const naps = service('Naps', { naps: async (ctx: ServiceContext, _: null): Promise<number> => (await all(Array.from({ length: many }, () => ctx.sleep(FAR)))).length });
+  await inMemory([naps], 500, async (memory, send) => {
+    await send('Naps/naps', 1);
+    await until(() => count(memory, 'suspended') === 1);
+    assert.equal(memory.tables.timers.where().length, many);
+    memory.skipped += 2 * FAR;
+    memory.say('ready');
+    await until(() => count(memory, 'done') === 1);
+    assert.equal(memory.tables.timers.where().length, 0);
   });
 });
 

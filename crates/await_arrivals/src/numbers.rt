@@ -112,6 +112,9 @@ impl Numbers {
             ≤ held_for_numbers self.old + most_for_one) }
         ensures err_held { OnErr result (held_for_numbers self.new ≡ held_for_numbers self.old) }
     {
+        if self.table.is_empty() {
+            self.table.reserve(KEPT)?;
+        }
         if self.table.len() <= place {
             self.table.resize(place + 1, None)?;
         }

@@ -21,7 +21,7 @@ use Rattle.c_sessions.proofs.Erring.{IsNoError, IsRefusal, error_kind, error_num
 use Rattle.c_values.specs.Statuses.{status_by, status_number}
 use Rattle.c_values.specs.declared.status.Status.{Status}
 use Rattle.c_values.specs.declared.status.Status.TheVariants as status
-use Rattle.c_values.proofs.Numbers.{named_again}
+use Rattle.c_values.proofs.StatusNumbers.{named_again}
 use Rattle.c_calls.specs.Calls.{AsksReady, Call, ReadsHead, TakesOutputOf}
 use Rattle.c_calls.specs.Given.{CannotCopy, Misfits}
 use Rattle.c_calls.specs.Makes.{MadeUnless, MadeWith, MakesCall}

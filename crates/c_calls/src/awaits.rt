@@ -1,7 +1,7 @@
 //! Awaits, and the takes of results.
 
 use crate::nodes::{Node, future_of};
-use await_trees::{NotificationHandle, UnresolvedFuture};
+use await_trees::NotificationHandle;
 use c_sessions::{Replied, VmCall, keep_awaited, keep_taken};
 use c_values::Status;
 use invocation_vm::{CoreVM, VM};
@@ -20,8 +20,7 @@ impl VmCall for AwaitCall {
     ghost does = { λ it. AwaitsHandle it.handle };
 
     fn make(self, alloc: Global, vm: &mut CoreVM, kept: &mut Reply) -> Result<Replied, Status> {
-        let future = UnresolvedFuture::Single(NotificationHandle(self.handle));
-        Ok(keep_awaited(kept, vm.do_await(future)))
+        Ok(keep_awaited(kept, vm.await_handle(NotificationHandle(self.handle))))
     }
 }
 

@@ -14,8 +14,8 @@ use Rattle.journal_store.specs.declared.effect.Effect.{Effect}
 use Rattle.journal_store.specs.declared.effect.Effect.TheVariants as effect
 use Rattle.journal_store.specs.declared.effect.Sent.{Sent}
 use Rattle.journal_store.specs.Effects.{effect_of}
-use Rattle.c_frames.specs.Messages.{found_part, message_at, part_behind}
-use Rattle.c_frames.specs.Results.{notification_message}
+use Rattle.c_values.specs.Messages.{found_part, message_at, part_behind}
+use Rattle.c_values.specs.Results.{notification_message}
 use Rattle.c_values.specs.declared.status.Status.{Status}
 use Rattle.c_values.specs.declared.status.Status.TheVariants as status
 use Rattle.c_journals.specs.Effects.{is_asking}

@@ -7,8 +7,8 @@ use Rattle.journal_protocol.specs.Message.TheVariants as message
 use Rattle.journal_store.specs.declared.effect.Effect.{Effect}
 use Rattle.journal_store.specs.declared.effect.Effect.TheVariants as effect
 use Rattle.journal_store.specs.Effects.{effect_of}
-use Rattle.c_frames.specs.declared.numbers.FrameRow.{FrameRow}
-use Rattle.c_frames.specs.Messages.{message_at, message_row}
+use Rattle.c_values.specs.declared.numbers.FrameRow.{FrameRow}
+use Rattle.c_values.specs.Messages.{message_at, message_row}
 use Rattle.c_values.specs.declared.status.Status.{Status}
 use Rattle.c_values.specs.declared.status.Status.TheVariants as status
 use Rattle.c_values.specs.Statuses.{status_number}

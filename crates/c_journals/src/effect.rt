@@ -4,8 +4,7 @@ ghost use Rattle.std.specs.Prelude.{◌≡◌, IfOk};
 ghost use Rattle.c_journals.specs.Effects.{asked_of, asked_row, asking_row, effect_row, engine_row, is_asking, kind_number, no_effect, own_row};
 
 use bytes::Bytes;
-use c_frames::{FrameRow, message_at, message_row};
-use c_values::Status;
+use c_values::{FrameRow, Status, message_at, message_row};
 use journal_protocol::Message;
 use journal_store::{Effect, effect_of};
 use std::alloc::{AllocError, Global};

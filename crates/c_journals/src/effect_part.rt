@@ -8,8 +8,7 @@ ghost use Rattle.c_journals.specs.EffectParts.{asked_part_of, begin_field, begin
 
 use crate::effect::is_asking;
 use bytes::Bytes;
-use c_frames::{message_at, write_part};
-use c_values::{Status, Told, tell, written};
+use c_values::{Status, Told, message_at, tell, write_part, written};
 use journal_entries::completion_result;
 use journal_protocol::{Encoder, Message, Notification, NotificationId, Signal, ValueOrFailure};
 use journal_store::{Beginning, Effect, Sent, effect_of};

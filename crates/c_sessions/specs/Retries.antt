@@ -5,7 +5,7 @@ use Rattle.std.specs.declared.time.Duration.{Duration}
 use Rattle.journal_protocol.specs.Error.{Error}
 use Rattle.vm_types.specs.declared.reply.Reply.{Reply}
 use Rattle.vm_types.specs.declared.reply.Reply.TheVariants as reply
-use Rattle.c_frames.specs.Numbers.{behavior_code}
+use Rattle.c_values.specs.Numbers.{behavior_code}
 use Rattle.c_sessions.specs.declared.retry.Retry.{Retry}
 use Rattle.c_sessions.specs.declared.session.Session.{Session}
 use Rattle.c_values.specs.declared.status.Status.{Status}

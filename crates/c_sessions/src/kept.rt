@@ -16,8 +16,8 @@ use vm_types::{Answer, AwaitResponse, Reply, VMResult, Value};
 /// Whether a reply may own memory: `false` only if it is known to be of numbers alone.
 fn may_hold_memory(reply: &Reply) -> bool {
     match reply {
-        Reply::Nothing | Reply::Awaited(_) | Reply::Run(_) | Reply::State(_) | Reply::Index(_) =>
-            false,
+        Reply::Nothing | Reply::Done | Reply::Made(_) | Reply::Ready(_) => false,
+        Reply::Awaited(_) | Reply::Run(_) | Reply::State(_) | Reply::Index(_) => false,
         Reply::Answer(answer) => match answer {
             Answer::Handle(_) | Answer::Call(_) | Answer::Send(_) | Answer::Unit => false,
             Answer::Taken(None) | Answer::Taken(Some(Value::Void)) => false,
@@ -81,18 +81,50 @@ fn keep_error(kept: &mut Reply, error: Error) -> Replied
     keep(kept, Reply::Refused(error))
 }
 
-/// Keeps the reply of a call that answers a handle: the handle, or the error.
+/// Keeps a handle.
+#[inline(always)]
+fn keep_number(kept: &mut Reply, handle: NotificationHandle) -> Replied
+    ensures kept { kept.new ≡ reply.Answer (answer.Handle handle) }
+    ensures told { result ≡ summary kept.new }
+{
+    release(kept);
+    forget(replace(kept, Reply::Answer(Answer::Handle(handle))));
+    numbered(Kind::Handle, handle.0, 0, 0)
+}
+
+/// Keeps that a call was made.
+#[inline(always)]
+fn keep_unit(kept: &mut Reply) -> Replied
+    ensures kept { kept.new ≡ reply.Answer answer.Unit }
+    ensures told { result ≡ summary kept.new }
+{
+    release(kept);
+    forget(replace(kept, Reply::Answer(Answer::Unit)));
+    numbered(Kind::Nothing, 0, 0, 0)
+}
+
+/// Keeps what an await answered.
+#[inline(always)]
+fn keep_response(kept: &mut Reply, response: AwaitResponse) -> Replied
+    ensures kept { kept.new ≡ reply.Awaited response }
+    ensures told { result ≡ summary kept.new }
+{
+    release(kept);
+    forget(replace(kept, Reply::Awaited(response)));
+    tell_response(&response)
+}
+
+/// Keeps the reply of a call that answers a handle: the handle, or the error. What was answered is looked at where it is, here and
+/// below, since a `match` first moves all that an error would take.
 pub fn keep_handle(kept: &mut Reply, given: VMResult<NotificationHandle>) -> Replied
     ensures kept { kept.new ≡ reply_of (λ handle. reply.Answer (answer.Handle handle)) given }
     ensures told { result ≡ summary kept.new }
 {
+    if let Ok(handle) = &given {
+        return keep_number(kept, *handle);
+    }
     match given {
-        Ok(handle) => {
-            let number = handle.0;
-            release(kept);
-            forget(replace(kept, Reply::Answer(Answer::Handle(handle))));
-            numbered(Kind::Handle, number, 0, 0)
-        }
+        Ok(handle) => keep_number(kept, handle),
         Err(error) => keep_error(kept, error),
     }
 }
@@ -102,12 +134,11 @@ pub fn keep_ended(kept: &mut Reply, given: VMResult<()>) -> Replied
     ensures kept { kept.new ≡ reply_of (λ _. reply.Answer answer.Unit) given }
     ensures told { result ≡ summary kept.new }
 {
+    if let Ok(()) = &given {
+        return keep_unit(kept);
+    }
     match given {
-        Ok(()) => {
-            release(kept);
-            forget(replace(kept, Reply::Answer(Answer::Unit)));
-            numbered(Kind::Nothing, 0, 0, 0)
-        }
+        Ok(()) => keep_unit(kept),
         Err(error) => keep_error(kept, error),
     }
 }
@@ -117,13 +148,11 @@ pub fn keep_awaited(kept: &mut Reply, given: VMResult<AwaitResponse>) -> Replied
     ensures kept { kept.new ≡ reply_of reply.Awaited given }
     ensures told { result ≡ summary kept.new }
 {
+    if let Ok(response) = &given {
+        return keep_response(kept, *response);
+    }
     match given {
-        Ok(response) => {
-            let replied = tell_response(&response);
-            release(kept);
-            forget(replace(kept, Reply::Awaited(response)));
-            replied
-        }
+        Ok(response) => keep_response(kept, response),
         Err(error) => keep_error(kept, error),
     }
 }
@@ -143,6 +172,11 @@ pub fn keep_taken(kept: &mut Reply, given: VMResult<Option<Value>>) -> Replied
     ensures kept { kept.new ≡ reply_of (λ value. reply.Answer (answer.Taken value)) given }
     ensures told { result ≡ summary kept.new }
 {
+    if let Ok(Some(Value::Void)) = &given {
+        release(kept);
+        forget(replace(kept, Reply::Answer(Answer::Taken(Some(Value::Void)))));
+        return numbered(Kind::Void, 0, 0, 0);
+    }
     match given {
         Ok(taken) => {
             let mut replied = tell_taken(&taken);

@@ -2,8 +2,7 @@
 ghost use Rattle.std.specs.Prelude.{◌≡◌};
 ghost use Rattle.c_sessions.specs.Retries.{delay_code, no_retry, retry_of, retry_told, whole_millis};
 
-use c_frames::behavior_code;
-use c_values::Status;
+use c_values::{Status, behavior_code};
 use journal_protocol::Error;
 use std::time::Duration;
 use vm_types::Reply;

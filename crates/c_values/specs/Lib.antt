@@ -1,3 +1,13 @@
+pub mod Answers
+pub mod Children
 pub mod Held
+pub mod Making
+pub mod Messages
+pub mod Noting
+pub mod Numbers
+pub mod Parts
+pub mod Reading
+pub mod Results
 pub mod Statuses
+pub mod Waking
 pub mod Written

@@ -1,12 +1,31 @@
-//! The values of the C interface: a box that is taken apart (the pointer to its block, and whose block that is), how a call from C ended, and
-//! what a call writes. The crates above hide the pointer of a session or of a journal in a struct of C's; their proofs by hand stand on the
-//! steps that are proved here.
+//! The values of the C interface: a box that is taken apart (the pointer to its block, and whose block that is), how a call from C ended, what a
+//! call writes, and frames: the kind of a message, its numbers and its parts, frames that hold a value as it is given, results as
+//! notifications, whether a suspension is awake, and in which field two commands differ. No text is between. The crates above hide
+//! the pointer of a session or of a journal in a struct of C's; their proofs by hand stand on the steps that are proved here.
 #![tactic(auto)]
 
+mod future;
+mod judged;
+mod judgement;
+mod leaves;
 mod loose;
+mod making;
+mod messages;
+mod numbers;
+mod parts;
+mod reading;
+mod results;
 mod status;
 mod told;
+mod waking;
 
+pub use future::awake_at;
+pub use judgement::{Judged, judge, unjudged};
 pub use loose::Loose;
+pub use making::{input_with, value_frame};
+pub use messages::{message_at, message_row, write_difference, write_part};
+pub use numbers::{FrameRow, behavior_code, unread_row};
+pub use reading::frame_at;
+pub use results::notification_at;
 pub use status::Status;
 pub use told::{Told, answer, tell, write, written};

@@ -63,7 +63,7 @@ pub enum Status {
 
 impl Status {
     /// The number that C sees.
-    #[tactic(auto, using(crate::proofs::Numbers::named_again))]
+    #[tactic(auto, using(crate::proofs::StatusNumbers::named_again))]
     pub fn code(self) -> u32
         ensures code { result ≡ status_number self }
         ensures status { status_by result ≡ self }

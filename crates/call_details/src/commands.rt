@@ -2,8 +2,8 @@
 use crate::moment::Moment;
 use frame_lines::message::print_message;
 use frame_lines::type_names::name_of;
-use journal_messages::{Field, difference};
 use journal_protocol::{Message, MessageType, RawMessage};
+use journal_replay::{Field, difference};
 use lines::line::Line;
 use lines::pieces::words;
 use plain::Fault;

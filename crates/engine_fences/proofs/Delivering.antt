@@ -25,6 +25,7 @@ use Rattle.engines.specs.declared.engine.Invocation.{Invocation}
 use Rattle.engines.specs.declared.types.Happening.{Happening}
 use Rattle.engines.specs.declared.types.Happening.TheVariants as happening
 use Rattle.engines.specs.Between.{IsOneOf}
+use Rattle.engines.specs.Deliveries.{AllDelivered, AreDelivered, inbox_at, next_at, waiting_in, waiting_of}
 use Rattle.engines.specs.Engines.{AllHappen, ChangesAt, DeliversAt, DeliversIf, DeliversTo, DeliversUnless, GoesIn, brought_at, brought_in, brought_of}
 use Rattle.engines.specs.Lookups.{brought_for, callee_id, callee_in, callee_of, callee_result}
 use Rattle.engines.specs.Members.{Delivers, MemberView}
@@ -32,7 +33,7 @@ use Rattle.engines.proofs.Among.{get_within}
 use Rattle.engines.proofs.Changing.{happens_then}
 use Rattle.engines.proofs.Growing.{Seen, seen_one, some_in}
 use Rattle.engine_fences.specs.Causes.{CanComeOrHasToWait, HasToWait, note_now}
-use Rattle.engine_fences.specs.Deliveries.{AllDelivered, AllHaveToWait, AreDelivered, HasComeAt, HasLiveAttempt, NothingCanCome, WhatCanComes, inbox_at, next_at, waiting_in, waiting_of}
+use Rattle.engine_fences.specs.Deliveries.{AllHaveToWait, HasComeAt, HasLiveAttempt, NothingCanCome, WhatCanComes}
 use Rattle.engine_fences.proofs.Events.{brought_is}
 use Rattle.engine_fences.proofs.Inboxes.{inboxes_caused}
 

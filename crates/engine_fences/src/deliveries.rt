@@ -1,6 +1,7 @@
 //! A law of deliveries: what can come comes.
 ghost use Rattle.std.specs.Prelude.{◌≡◌, ℕ, [], List};
-ghost use Rattle.engine_fences.specs.Deliveries.{AllDelivered, AllHaveToWait, HasLiveAttempt, NothingCanCome, WhatCanComes};
+ghost use Rattle.engine_fences.specs.Deliveries.{AllHaveToWait, HasLiveAttempt, NothingCanCome, WhatCanComes};
+ghost use Rattle.engines.specs.Deliveries.{AllDelivered};
 ghost use Rattle.engines.specs.Engines.{AllHappen};
 ghost use Rattle.engines.specs.declared.types.Happening.{Happening};
 

@@ -1,7 +1,8 @@
 //! What waits for an invocation: which completion ids its stored commands wait for, and which signals have come. What it delivers has no fault.
-//! And what else of an engine needs no attempt: its handlers, what is asked for, and why it stops.
+//! And what else of an engine needs no attempt: its handlers, what is asked for, why it stops, and whom an awakeable's id names.
 #![tactic(auto)]
 
+mod awakeables;
 mod fault;
 mod ids;
 mod inbox;
@@ -10,6 +11,7 @@ mod order;
 mod target;
 mod types;
 
+pub use awakeables::awakeable_ids_name_their_signals;
 pub use fault::{EngineFault, arrival_of, inbox_of, stored_of};
 pub use inbox::Inbox;
 pub use order::{Begun, Callee, Order};

@@ -14,14 +14,6 @@ pub fn something_if(is_so: bool) -> Did {
     if is_so { Did::Something } else { Did::Nothing }
 }
 
-/// Where to look after this place: what waits there stays, if nothing was delivered.
-pub fn place_after(at: usize, did: Did) -> usize {
-    match did {
-        Did::Nothing => at.saturating_add(1),
-        _ => at,
-    }
-}
-
 /// What several events have done: what the latest has, or what those before it have, if it did nothing.
 pub fn latest(before: Did, one: Did) -> Did {
     match one {

@@ -1,14 +1,15 @@
 //! What the events of a script do to an engine: the only module that makes the engine's events.
-ghost use Rattle.std.specs.Prelude.{◌≡◌, None, IfErr, OnOk, Option, ℕ};
+ghost use Rattle.std.specs.Prelude.{◌≡◌, ◌<◌, ◌+◌, ◌^◌, suc, length, nat_lt, if◌then◌else◌, None, IfErr, OnOk, Option, ℕ};
 ghost use Rattle.engine_inboxes.specs.Faults.{IsNoArrival};
+ghost use Rattle.engines.specs.Deliveries.{AllDelivered, inbox_at};
 ghost use Rattle.engines.specs.declared.types.Happening.TheVariants as happening;
 ghost use Rattle.world_rounds.specs.declared.types.Event.TheVariants as attempt;
 ghost use Rattle.engine_lines.specs.Orders.{submitted_order};
-ghost use Rattle.engine_scripts.specs.Events.{DeedDoes, EventDoes, HappenOf, HappensOnce, IsDeliveryTo, IsSettling};
+ghost use Rattle.engine_scripts.specs.Events.{DeedDoes, EventDoes, HappenOf, HappensOnce, SettlesAtMost, SettlesOnce, SettlesOne, plan_meaning};
 
 use call_lines::plan::Plan;
 use engine_inboxes::EngineFault;
-use engine_lines::did::{Did, latest, place_after, something_if};
+use engine_lines::did::{Did, latest, something_if};
 use engine_lines::orders::order_of;
 use engine_lines::said::{Asked, Deed, Event};
 use engine_lines::targets::steps_of;
@@ -39,7 +40,9 @@ fn journal_len(engine: &Engine<Plan>, place: usize) -> usize {
 }
 
 /// How much waits for it.
-fn inbox_len(engine: &Engine<Plan>, place: usize) -> usize {
+fn inbox_len(engine: &Engine<Plan>, place: usize) -> usize
+    ensures { result ≡ length (inbox_at engine.now place) }
+{
     match engine.invocations.get(place) {
         Some(it) => match &it.member {
             Some(member) => member.inbox().len(),
@@ -127,18 +130,27 @@ fn deliver(engine: &mut Engine<Plan>, place: usize, at: usize) -> Result<Did, En
     Ok(something_if(inbox_len(engine, place) < before))
 }
 
+/// Where to look after this place of an inbox that was so long, and is so long after a delivery: if that has come, what stood after it moves up.
+fn place_after(at: usize, was: usize, is: usize) -> usize
+    requires { at + 1 < 2 ^ 64 }
+    ensures { result ≡ (if nat_lt is was then at else suc at) }
+{
+    if is < was { at } else { at + 1 }
+}
+
 /// All that waits is delivered, if it can be; what stood first comes first.
-#[tactic(auto, using(crate::proofs::Playing::happens_none, crate::proofs::Playing::delivered_more))]
+#[tactic(auto, using(crate::proofs::Playing::delivers_none, crate::proofs::Playing::delivers_more, crate::proofs::Playing::delivers_all))]
 fn deliver_all(engine: &mut Engine<Plan>, place: usize) -> Result<Did, EngineFault>
-    ensures does { OnOk result (HappenOf (IsDeliveryTo place) engine.old engine.new) }
+    ensures does { OnOk result (AllDelivered plan_meaning place engine.old engine.new) }
     ensures err { IfErr result IsNoArrival }
 {
     let mut did = Did::Nothing;
     let mut at = 0usize;
     let mut left = inbox_len(engine, place);
     while left > 0 {
+        let was = inbox_len(engine, place);
         let one = deliver(engine, place, at)?;
-        at = place_after(at, one);
+        at = place_after(at, was, inbox_len(engine, place));
         did = latest(did, one);
         left -= 1;
     }
@@ -213,9 +225,8 @@ fn steps_for(engine: &Engine<Plan>, place: usize) -> u64 {
 }
 
 /// An attempt begins, is fed, and makes steps; what it wrote is stored, and what waits is delivered. Whether the journal has grown.
-#[tactic(auto, using(crate::proofs::Playing::settles))]
 fn settle_one(engine: &mut Engine<Plan>, place: usize) -> Result<bool, EngineFault>
-    ensures does { OnOk result (HappenOf (IsSettling) engine.old engine.new) }
+    ensures does { OnOk result (SettlesOne place engine.old engine.new) }
     ensures err { IfErr result IsNoArrival }
 {
     let before = journal_len(engine, place);
@@ -229,9 +240,9 @@ fn settle_one(engine: &mut Engine<Plan>, place: usize) -> Result<bool, EngineFau
 }
 
 /// Once over all invocations. Whether a journal has grown.
-#[tactic(auto, using(crate::proofs::Playing::happens_none, crate::proofs::Playing::happens_then))]
+#[tactic(auto, using(crate::proofs::Playing::settles_none, crate::proofs::Playing::settles_more, crate::proofs::Playing::settles_all))]
 fn settle_once(engine: &mut Engine<Plan>) -> Result<bool, EngineFault>
-    ensures does { OnOk result (HappenOf (IsSettling) engine.old engine.new) }
+    ensures does { OnOk result (SettlesOnce engine.old engine.new) }
     ensures err { IfErr result IsNoArrival }
 {
     let mut grows = false;
@@ -244,9 +255,9 @@ fn settle_once(engine: &mut Engine<Plan>) -> Result<bool, EngineFault>
 }
 
 /// This number of times over all invocations, or until nothing is stored any more.
-#[tactic(auto, using(crate::proofs::Playing::happens_none, crate::proofs::Playing::happens_then))]
+#[tactic(auto, using(crate::proofs::Playing::some_none, crate::proofs::Playing::some_more, crate::proofs::Playing::some_at_most))]
 fn settle(engine: &mut Engine<Plan>, times: u64) -> Result<Did, EngineFault>
-    ensures does { OnOk result (HappenOf (IsSettling) engine.old engine.new) }
+    ensures does { OnOk result (SettlesAtMost times engine.old engine.new) }
     ensures err { IfErr result IsNoArrival }
 {
     let mut did = Did::Nothing;

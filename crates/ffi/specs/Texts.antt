@@ -3,7 +3,7 @@ use Rattle.std.specs.Prelude.{ℕ, List, Result, Ok}
 use Rattle.std.specs.Str.{IsUtf8}
 use Rattle.frame_lines.specs.FrameLines.{LineShows, ShowsNothing}
 use Rattle.frame_lines.specs.Printed.{frame_text}
-use Rattle.c_frames.specs.Reading.{frame_at, if_found}
+use Rattle.c_values.specs.Reading.{frame_at, if_found}
 use Rattle.c_values.specs.declared.status.Status.{Status}
 use Rattle.c_values.specs.declared.status.Status.TheVariants as status
 use Rattle.c_values.specs.Written.{NoneWritten, WrittenOrWhy}

@@ -1,18 +1,18 @@
 //! The calls on frames: what one says, one with a value, the notification of a result, whether a suspension is awake, and in which
 //! field two commands differ.
 ghost use Rattle.std.specs.Prelude.{Ok};
-ghost use Rattle.c_frames.specs.Answers.{IsJudged};
-ghost use Rattle.c_frames.specs.Making.{input_with, value_frame};
-ghost use Rattle.c_frames.specs.Messages.{RowRead, message_at, named_difference, part_behind};
-ghost use Rattle.c_frames.specs.Reading.{awake_at, notification_at};
+ghost use Rattle.c_values.specs.Answers.{IsJudged};
+ghost use Rattle.c_values.specs.Making.{input_with, value_frame};
+ghost use Rattle.c_values.specs.Messages.{RowRead, message_at, named_difference, part_behind};
+ghost use Rattle.c_values.specs.Reading.{awake_at, notification_at};
 ghost use Rattle.c_values.specs.Statuses.{IsStatus, status_by};
 ghost use Rattle.c_values.specs.Written.{WrittenOrWhy};
 
-use c_frames::{
-    FrameRow, Judged, awake_at, input_with, judge, message_at, message_row, notification_at,
-    unjudged, unread_row, value_frame, write_difference, write_part,
+use c_values::{
+    FrameRow, Judged, Status, Told, answer, awake_at, input_with, judge, message_at, message_row,
+    notification_at, tell, unjudged, unread_row, value_frame, write_difference, write_part,
+    written,
 };
-use c_values::{Status, Told, answer, tell, written};
 use std::alloc::Global;
 
 /// The row of a frame: the type of its message, and its numbers.

@@ -1,5 +1,5 @@
 //! A VM, and a stored journal, for callers of C: the functions that C calls. What each does stands in `c_sessions`, `c_calls`,
-//! `c_journals` and `c_frames`, which know no text; the calls by lines, and the line of a VM for a log, stand here.
+//! `c_journals` and `c_values`, which know no text; the calls by lines, and the line of a VM for a log, stand here.
 #![tactic(auto)]
 
 mod describing;

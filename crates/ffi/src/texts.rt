@@ -7,8 +7,7 @@ ghost use Rattle.frame_lines.specs.Printed.{frame_text};
 ghost use Rattle.ffi.specs.Texts.{IsRefusedLine, LineRead, line_at};
 
 use bytes::Bytes;
-use c_frames::frame_at;
-use c_values::{Status, Told, answer, tell, written};
+use c_values::{Status, Told, answer, frame_at, tell, written};
 use frame_lines::entry::{frame_of, print_frame};
 use journal_protocol::RawMessage;
 use lines::line::Line;

@@ -7,3 +7,4 @@ pub mod Feeds
 pub mod Fresh
 pub mod Several
 pub mod Stepping
+pub mod Naming

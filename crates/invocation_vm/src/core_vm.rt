@@ -7,10 +7,11 @@ ghost use Rattle.vm_asks.specs.Requests.{ids_of};
 ghost use Rattle.vm_awaits.specs.Cancels.{Cancels};
 ghost use Rattle.vm_machine.specs.Outcomes.{Lives};
 ghost use Rattle.vm_parts.specs.Tracked.{invocation_ids};
-ghost use Rattle.invocation_vm.specs.Calls.{CallsAll, CallsAllFor, CallsAwait, CallsAwaitBy, CallsBefore, CallsCommand, CallsFor, CallsRead, CallsTry, CallsUnit, run_handle};
+ghost use Rattle.invocation_vm.specs.Calls.{CallsAll, CallsAllFor, CallsAwait, CallsAwaitBy, CallsBefore, CallsCommand, CallsFlatAwait, CallsFor, CallsRead, CallsTry, CallsUnit, run_handle};
 ghost use Rattle.invocation_vm.specs.Making.{IsSupported, made};
 ghost use Rattle.invocation_vm.specs.Seen.{seen};
 ghost use Rattle.invocation_vm.specs.Views.{Calls};
+ghost use Rattle.await_trees.specs.declared.tree.UnresolvedFuture.TheVariants.{Single};
 
 use crate::shared::{
     answered_so, both_handles, first_error, id_handle, make_awakeable, name_text, run_handle,
@@ -25,6 +26,7 @@ use journal_protocol::{Decoder, Error, HeaderMap, InvocationTarget, Version};
 use plain::Text;
 use std::alloc::{AllocError, Global};
 use std::fmt;
+use std::mem::forget;
 use std::time::Duration;
 use vm_asks::{Ask, Command, StateRead, asks};
 use vm_awaits::{Awaited, await_tree, drop_cancel, finish_run, flatten, is_completed, take};
@@ -301,6 +303,23 @@ impl CoreVM {
     }
 }
 
+#[tactic(auto, using(crate::proofs::AtOnce::awakes, crate::proofs::AtOnce::stays, crate::proofs::AtOnce::awaits_any, crate::proofs::Calls::answers_read))]
+impl CoreVM {
+    /// As `do_await`, of one handle. Most such awaits wake at once, and need no tree.
+    pub fn await_handle(&mut self, handle: NotificationHandle) -> VMResult<AwaitResponse>
+        ensures { CallsFlatAwait (Single handle) result (seen self.old) (seen self.new) }
+    {
+        if let Some(id) = ready_ephemeral(&self.machine) {
+            let response = AwaitResponse::EphemeralNotificationReady(id);
+            return Ok(response);
+        }
+        if wakes_at_once(&mut self.machine, handle.0) {
+            return Ok(AwaitResponse::AnyCompleted);
+        }
+        self.await_any(UnresolvedFuture::Single(handle))
+    }
+}
+
 #[tactic(auto, using(crate::proofs::AtOnce::awakes, crate::proofs::AtOnce::stays, crate::proofs::AtOnce::awaits_any, crate::proofs::Calls::answers_read, crate::proofs::Calls::does_called, crate::proofs::Calls::does_failed, crate::proofs::Calls::first_does, crate::proofs::Calls::answered_does, crate::proofs::Calls::settled_does, crate::proofs::Calls::first_does_one, crate::proofs::Calls::answered_does_one, crate::proofs::Calls::settled_does_one, crate::proofs::Feeds::leaves_called, crate::proofs::Feeds::stays_called))]
 impl VM for CoreVM {
     ghost view = { λ s. record { undecoded = s.decoder; machine = s.machine } };
@@ -377,15 +396,11 @@ impl VM for CoreVM {
     }
 
     fn do_await(&mut self, future: UnresolvedFuture) -> VMResult<AwaitResponse> {
+        if let UnresolvedFuture::Single(handle) = &future {
+            return self.await_handle(*handle);
+        }
         if let Some(id) = ready_ephemeral(&self.machine) {
             return Ok(AwaitResponse::EphemeralNotificationReady(id));
-        }
-        let handle = match &future {
-            UnresolvedFuture::Single(handle) => handle.0,
-            _ => return self.await_any(future),
-        };
-        if wakes_at_once(&mut self.machine, handle) {
-            return Ok(AwaitResponse::AnyCompleted);
         }
         self.await_any(future)
     }
@@ -407,8 +422,13 @@ impl VM for CoreVM {
         wake_up_time_since_unix_epoch: Duration,
         now_since_unix_epoch: Option<Duration>,
     ) -> VMResult<NotificationHandle> {
+        let is_named = name.capacity() > 0;
         let mut command = asks::sleep(Text::from_string(name), wake_up_time_since_unix_epoch);
-        self.call(&mut command)
+        let given = self.call(&mut command);
+        if !is_named {
+            forget(command); // it owns no memory, and a message is large to drop
+        }
+        given
     }
 
     fn ephemeral_state_get(&mut self, key: String) -> VMResult<EphemeralCompletionId> {

@@ -22,11 +22,15 @@ pub fn supported(version: Version) -> Result<Version, Error>
     }
 }
 
-/// The version that a content type names.
+/// The version that a content type names. The one that most name is looked for first, as each comparison takes time.
+#[tactic(auto, using(crate::proofs::Naming::names_v7))]
 pub fn version_named(content_type: &str) -> Result<Version, Error>
     ensures does { result ≡ version_in (Some (Some content_type.now)) }
     ensures supported { IfOk result IsSupported }
 {
+    if content_type == Version::V7.content_type() {
+        return Ok(Version::V7);
+    }
     let Some(version) = Version::of_content_type(content_type) else {
         return Err(Error::named(NamedFault::BadContentType, None));
     };

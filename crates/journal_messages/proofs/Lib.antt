@@ -6,6 +6,5 @@ pub mod Frames
 pub mod Streams
 pub mod Cuts
 pub mod SameHeader
-pub mod Erased
 pub mod Own
 pub mod Typed

@@ -6,8 +6,6 @@ pub mod Frames
 pub mod Stream
 pub mod Runs
 pub mod Waiting
-pub mod Fields
-pub mod Headers
 pub mod HeaderEqual
 pub use Rattle.wire.specs.Reads
 pub use Rattle.journal_attempt.specs.Futures

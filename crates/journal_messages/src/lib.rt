@@ -1,18 +1,13 @@
-//! Messages of all types: writing one as a frame, reading the body of one, a stream of frames however it was cut, and replay's
-//! comparison, with the first field in which two commands aren't the same. The types of the bodies are passed on.
+//! Messages of all types: writing one as a frame, reading the body of one, and a stream of frames however it was cut. The types of the bodies are passed on.
 #![tactic(auto)]
 
 mod awaiting;
 mod decoder;
-mod field;
-mod header_equality;
 mod message;
 mod stream;
 mod waiting;
 
 pub use decoder::Decoder;
-pub use field::Field;
-pub use header_equality::{difference, header_eq};
 pub use journal_attempt::{
     AwaitingOn, Future, FutureKind, FutureNode, InputCommand, OutputCommand, ProposeRunCompletion,
     ProposeRunCompletionAck, RunCommand, SleepCommand, Start, Suspension,

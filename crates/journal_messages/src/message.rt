@@ -3,6 +3,7 @@ ghost use Rattle.std.specs.Prelude.{◌≡◌, ◌==◌, ◌++◌, IfOk, OnOk};
 ghost use Rattle.journal_errors.specs.Types.{type_number};
 ghost use Rattle.wire.specs.Reads.{Read};
 ghost use Rattle.journal_messages.specs.Awaiting.{awaiting_id};
+ghost use Rattle.journal_errors.specs.declared.types.MessageType.TheVariants as type;
 ghost use Rattle.journal_messages.specs.declared.message.Message.TheVariants as message;
 ghost use Rattle.journal_messages.specs.Reading.{acknowledgement_in, body_as, ephemeral_notification_in, input_in, message_in, notification_in, proposal_in, start_in};
 ghost use Rattle.journal_messages.specs.Message.{IsWhole, body, encoding, frame, numbered_frame, type_of, IsValid, DecodesTo, Decodes};
@@ -317,7 +318,7 @@ impl RawMessage {
     }
 }
 
-/// A message of the body that was read. With a `?` in each arm `read_typed` takes twice as long to prove.
+/// A message of the body that was read. With a `?` in each arm `read_any` takes twice as long to prove.
 macro_rules! as_message {
     ($body:expr, $message:path) => {
         match $body {
@@ -327,9 +328,88 @@ macro_rules! as_message {
     };
 }
 
+/// The commands that most journals consist of, each read by a function of its own: a function sets all that its ways hold to zero where
+/// it begins, and `read_any` has thirty ways.
+#[tactic(auto, unfolding(crate::specs::Reading::message_in))]
+impl RawMessage {
+    #[inline(never)]
+    fn read_sleep(&self, alloc: Global) -> Result<Message, Fault>
+        ensures { Read (message_in type.SleepCommand self.now.body) result }
+    {
+        as_message!(self.read_as(alloc), Message::Sleep)
+    }
+
+    #[inline(never)]
+    fn read_run(&self, alloc: Global) -> Result<Message, Fault>
+        ensures { Read (message_in type.RunCommand self.now.body) result }
+    {
+        as_message!(self.read_as(alloc), Message::Run)
+    }
+
+    #[inline(never)]
+    fn read_call(&self, alloc: Global) -> Result<Message, Fault>
+        ensures { Read (message_in type.CallCommand self.now.body) result }
+    {
+        as_message!(self.read_as(alloc), Message::Call)
+    }
+
+    #[inline(never)]
+    fn read_one_way_call(&self, alloc: Global) -> Result<Message, Fault>
+        ensures { Read (message_in type.OneWayCallCommand self.now.body) result }
+    {
+        as_message!(self.read_as(alloc), Message::OneWayCall)
+    }
+
+    #[inline(never)]
+    fn read_set_state(&self, alloc: Global) -> Result<Message, Fault>
+        ensures { Read (message_in type.SetStateCommand self.now.body) result }
+    {
+        as_message!(self.read_as(alloc), Message::SetState)
+    }
+
+    #[inline(never)]
+    fn read_get_eager_state(&self, alloc: Global) -> Result<Message, Fault>
+        ensures { Read (message_in type.GetEagerStateCommand self.now.body) result }
+    {
+        as_message!(self.read_as(alloc), Message::GetEagerState)
+    }
+
+    #[inline(never)]
+    fn read_get_lazy_state(&self, alloc: Global) -> Result<Message, Fault>
+        ensures { Read (message_in type.GetLazyStateCommand self.now.body) result }
+    {
+        as_message!(self.read_as(alloc), Message::GetLazyState)
+    }
+
+    #[inline(never)]
+    fn read_output(&self, alloc: Global) -> Result<Message, Fault>
+        ensures { Read (message_in type.OutputCommand self.now.body) result }
+    {
+        as_message!(self.read_as(alloc), Message::Output)
+    }
+}
+
 #[tactic(auto, unfolding(crate::specs::Reading::message_in))]
 impl RawMessage {
     fn read_typed(&self, alloc: Global) -> Result<Message, Fault>
+        ensures { Read (message_in self.now.ty self.now.body) result }
+    {
+        match self.ty {
+            MessageType::SleepCommand => self.read_sleep(alloc),
+            MessageType::RunCommand => self.read_run(alloc),
+            MessageType::CallCommand => self.read_call(alloc),
+            MessageType::OneWayCallCommand => self.read_one_way_call(alloc),
+            MessageType::SetStateCommand => self.read_set_state(alloc),
+            MessageType::GetEagerStateCommand => self.read_get_eager_state(alloc),
+            MessageType::GetLazyStateCommand => self.read_get_lazy_state(alloc),
+            MessageType::OutputCommand => self.read_output(alloc),
+            _ => self.read_any(alloc),
+        }
+    }
+
+    /// A message of any type.
+    #[inline(never)]
+    fn read_any(&self, alloc: Global) -> Result<Message, Fault>
         ensures { Read (message_in self.now.ty self.now.body) result }
     {
         match self.ty {

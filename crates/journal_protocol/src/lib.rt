@@ -1,4 +1,4 @@
-//! The layer of messages and their bytes, as the layers above see it: the messages, what writes and reads them, replay's comparison, and
+//! The layer of messages and their bytes, as the layers above see it: the messages, what writes and reads them, and
 //! the laws that proofs above go by. The laws don't fix the layout of a frame, so another layer of these words and laws could take its
 //! place.
 #![tactic(auto)]
@@ -15,8 +15,7 @@ pub use journal_messages::{
     Notification, NotificationId, NotificationResult, OneWayCallCommand, OutputCommand,
     PromiseCommand, ProposeRunCompletion, ProposeRunCompletionAck, RawMessage, RelatedCommand,
     RunCommand, Said, SendSignalCommand, SetStateCommand, Signal, SignalDelivery, SignalResult,
-    SleepCommand, Start, Suspension, ValueOrFailure, Version, VoidOrValue, WorkflowId, header_eq,
-    messages_of,
+    SleepCommand, Start, Suspension, ValueOrFailure, Version, VoidOrValue, WorkflowId, messages_of,
 };
 pub use laws::{
     bodies_are_read_back, bytes_are_cut_anywhere, encodings_are_of_one_form, frames_are_read_off,

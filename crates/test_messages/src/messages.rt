@@ -5,9 +5,10 @@ use crate::frame_rows::expect;
 use crate::reading::{encoded, first_frame, sent_in};
 use bytes::Bytes;
 use journal_protocol::{
-    Decoder, Error, Future, FutureKind, FutureNode, Message, RawMessage, ValueOrFailure, header_eq,
+    Decoder, Error, Future, FutureKind, FutureNode, Message, RawMessage, ValueOrFailure,
     messages_of,
 };
+use journal_replay::header_eq;
 use plain::{Fault, Items, Text, is_same};
 use std::alloc::{AllocError, Global};
 use std::test::Fail;

@@ -45,10 +45,10 @@ use Rattle.vm_model.specs.Fixed.{fixed_by}
 abbrev first : Start
 first = record { id = codes "abc"; debug_id = codes "abc"; key = []; known_entries = 3; state = []; partial = false; retry_count = 0; duration = 0; random_seed = 0; scope = None; limit_key = None; idempotency_key = None }
 
-abbrev input : InputCommand
+abbrev pub input : InputCommand
 input = record { headers = []; value = codes "Till" }
 
-abbrev slept : Message
+abbrev pub slept : Message
 slept = message.Sleep (record { wake_up_time = 1000; result_completion_id = 1; name = [] })
 
 abbrev void : Notification
@@ -58,11 +58,11 @@ start_is_whole : IsWhole (message.Start first)
 unfolding start_body u32s u64s bytes list option flag lib.Utf8.encode
 start_is_whole = ((lit< tt, ((lit< tt, (codes "abc", (refl, refl))), ((lit< tt, ([], (refl, refl))), (lit< tt, ((lit< tt, tt), (tt, (lit< tt, (lit< tt, (lit< tt, (tt, (tt, tt))))))))))), lit< tt)
 
-input_is_whole : IsWhole (message.Input input)
+pub input_is_whole : IsWhole (message.Input input)
 unfolding input_body u32s u64s bytes list
 input_is_whole = (((lit< tt, tt), lit< tt), lit< tt)
 
-slept_is_whole : IsWhole slept
+pub slept_is_whole : IsWhole slept
 unfolding sleep_body u32s u64s bytes
 slept_is_whole = ((lit< tt, (lit< tt, (lit< tt, ([], (refl, refl))))), lit< tt)
 

@@ -4,7 +4,8 @@
 //! Beside the tests stand handlers whose runs are known beforehand, their runs with their frames, and what rows expect of an attempt. Frames that others
 //! need too, and headers, are those of `test_support`. Runs of some handlers are computed on the bytes of their messages, and an attempt is fed
 //! honestly: the definitions of runs give what is expected, and the premise of an honest attempt is met (`proofs/Runs.antt`,
-//! `proofs/Attempts.antt`). Nothing of these runs. They name the crates of the layer of messages, whose bytes they compute.
+//! `proofs/Attempts.antt`). So are those of the law of a journal that no run made (`proofs/Unmade.antt`). Nothing of these runs.
+//! They name the crates of the layer of messages, whose bytes they compute.
 #![tactic(auto)]
 
 pub mod asker;

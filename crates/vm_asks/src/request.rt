@@ -20,6 +20,7 @@ pub fn shown_type(message: &Message) -> MessageType
 }
 
 /// The name that errors show.
+#[inline(always)]
 pub fn name_of(alloc: Global, message: &Message) -> Result<Text, AllocError>
     ensures { IfOk result (λ name. name ≡ name_of message.now) }
 {
@@ -61,6 +62,7 @@ pub fn ids_of(message: &Message) -> u32
 }
 
 /// Gives a command its completion ids, of which `id` is the first.
+#[inline(always)]
 pub fn give_ids(message: &mut Message, id: u32)
     requires { id + ids_of message.old < 2 ^ 32 }
     ensures { message.new ≡ with_ids id message.old }

@@ -1,12 +1,11 @@
 //! A state read's command: eager where the state is known, lazy where it isn't; in replay the recorded form decides.
-ghost use Rattle.std.specs.Prelude.{◌≡◌, true, Some, IfOk};
-ghost use Rattle.journal_protocol.specs.Bodies.{message_in};
-ghost use Rattle.vm_asks.specs.StateReads.{eager_form, eager_type, form_of, keys_form, lazy_form, lazy_type, name_read, own_form, read_by, recorded_as, recorded_type, result_in, value_form, value_result};
+ghost use Rattle.std.specs.Prelude.{◌≡◌, IfOk};
+ghost use Rattle.vm_asks.specs.StateReads.{eager_form, eager_type, form_of, keys_form, lazy_form, lazy_type, name_read, own_form, recorded_type, result_in, value_form, value_result};
 
 use bytes::Bytes;
 use journal_protocol::{
     GetEagerStateCommand, GetEagerStateKeysCommand, GetLazyStateCommand, GetLazyStateKeysCommand,
-    Message, MessageType, NamedFault, NotificationResult, RawMessage, VoidOrValue, header_eq,
+    Message, MessageType, NamedFault, NotificationResult, RawMessage, VoidOrValue,
 };
 use plain::{Items, Text, copy_of};
 use std::alloc::{AllocError, Global};
@@ -87,35 +86,6 @@ pub fn result_in(
     }
 }
 
-/// What a recorded command brings that has to be header-equal to this form except in its result; or why it doesn't fit.
-fn compared(
-    form: &Message,
-    recorded: &Message,
-) -> Result<Result<Option<NotificationResult>, NamedFault>, AllocError>
-    ensures { IfOk result (λ given. given ≡ read_by form.now (Some recorded.now)) }
-{
-    if header_eq(recorded, form, true) {
-        result_in(recorded)
-    } else {
-        Ok(Err(NamedFault::CommandMismatch))
-    }
-}
-
-/// As `compared`, of a command that isn't read yet.
-fn read_by(
-    alloc: Global,
-    form: &Message,
-    raw: &RawMessage,
-) -> Result<Result<Option<NotificationResult>, NamedFault>, AllocError>
-    ensures { IfOk result (λ given. given ≡ read_by form.now (message_in raw.now.ty raw.now.body)) }
-{
-    match raw.read(alloc) {
-        Ok(recorded) => compared(form, &recorded),
-        Err(plain::Fault::Memory) => Err(AllocError),
-        Err(plain::Fault::Malformed) => Ok(Err(NamedFault::BadMessage)),
-    }
-}
-
 impl StateRead {
     pub fn lazy_type(&self) -> MessageType
         ensures { result ≡ lazy_type self.now }
@@ -188,7 +158,7 @@ impl StateRead {
     }
 
     /// The form that a recorded command has to have, by its type.
-    fn form_of(&self, id: u32, raw: &RawMessage) -> Result<Option<Message>, AllocError>
+    pub fn form_of(&self, id: u32, raw: &RawMessage) -> Result<Option<Message>, AllocError>
         ensures { IfOk result (λ form. form ≡ form_of self.now id raw.now) }
     {
         if raw.has_type(self.lazy_type()) {
@@ -198,21 +168,6 @@ impl StateRead {
         } else {
             Ok(None)
         }
-    }
-
-    /// What a recorded command brings where the handler makes this read, or why it doesn't fit.
-    pub fn recorded_as(
-        &self,
-        alloc: Global,
-        id: u32,
-        raw: &RawMessage,
-    ) -> Result<Result<Option<NotificationResult>, NamedFault>, AllocError>
-        ensures { IfOk result (λ given. given ≡ recorded_as self.now id raw.now) }
-    {
-        let Some(form) = self.form_of(id, raw)? else {
-            return Ok(Err(NamedFault::CommandTypeMismatch));
-        };
-        read_by(alloc, &form, raw)
     }
 
     /// The type that an error shows of a recorded read.

@@ -26,7 +26,7 @@ use Rattle.vm_attempt.specs.declared.progress.Progress.{Progress}
 use Rattle.vm_attempt.specs.Record.{Record, Said, all_said, heard}
 use Rattle.vm_attempt.specs.Stepping.{CloseDoes, InputIsClosed, FeedDoes, FeedsPiece, Takes, fresh_record, with_piece_kept, kept_at, with_vm}
 use Rattle.vm_attempt.specs.Told.{BeforeInput, JournalCame, HasCome, bytes_fed, frames_fed}
-use Rattle.vm_attempt.specs.Blames.{Blame, BlamedAt, FailsAt, IsBlamed, LacksEntries, Place}
+use Rattle.vm_attempt.specs.Blames.{BlamedAt, FailsAt, IsBlamed, KeptBlame, LacksEntries, Place}
 use Rattle.vm_attempt.specs.Blames.Blame.{Memory, Frame, NoFrame, ClosedEarly, NoInput, NoSkip, Call, RunResult}
 use Rattle.vm_attempt.proofs.Blaming.{frames_fit}
 use Rattle.vm_attempt.proofs.Pieces.{fed_frames}
@@ -158,7 +158,7 @@ abbrev pub closed_now : Said → Said
 closed_now said = record said { closed = true }
 
 -- closing changes no blame but that it says the input is closed
-pub closed_blame : (fixed : Fixed) (fed : Heard) (said : Said) (answers : List Answer) (e : Error) → Blame fixed fed said answers e → Blame fixed fed (closed_now said) answers e
+pub closed_blame : (fixed : Fixed) (fed : Heard) (said : Said) (answers : List Answer) (e : Error) → KeptBlame fixed fed said answers e → KeptBlame fixed fed (closed_now said) answers e
 closed_blame fixed fed said answers e (Memory x) = Memory x
 closed_blame fixed fed said answers e (Frame x) = Frame x
 closed_blame fixed fed said answers e (NoFrame x y) = NoFrame x y

@@ -42,7 +42,7 @@ use Rattle.vm_attempt.specs.declared.progress.Progress.TheVariants as progress
 use Rattle.vm_attempt.specs.declared.progress.Reply.{Reply}
 use Rattle.vm_attempt.specs.declared.progress.Reply.TheVariants as reply
 use Rattle.vm_attempt.specs.Agreement.{IsCutShort, CallRefused}
-use Rattle.vm_attempt.specs.Blames.{Blame, BlamedAt, CannotSkip, IfError, IsBlamed, LacksInput, RefusedCall, first_input, no_input_fault, skip_fault, the_input}
+use Rattle.vm_attempt.specs.Blames.{BlamedAt, CannotSkip, IfError, IsBlamed, KeptBlame, LacksInput, RefusedCall, first_input, no_input_fault, skip_fault, the_input}
 use Rattle.vm_attempt.specs.Blames.Blame.{Memory, NoInput, NoSkip, Call}
 use Rattle.journal_entries.specs.JournalFrames.{commands_among, notifications_among}
 use Rattle.vm_attempt.specs.Journals.{HasAll, StillWaits, machine_fed, with_missing, setup_for}
@@ -83,10 +83,10 @@ called_done {A} v o a w live is = by_outcome o (ap (λ f. called_at f o v) (sym 
     by_outcome (Failed e x) h = absurd (cc)
 
 -- a machine whose only failure is this error, and the reason for it
-pub error_blamed : (fixed : Fixed) (over : Option Progress) (fed : Heard) (said : Said) (answers : List Answer) (w : Machine) (e : Error) → w.failure ≡ Some e → Blame fixed fed said answers e → BlamedAt fixed over fed said answers w
+pub error_blamed : (fixed : Fixed) (over : Option Progress) (fed : Heard) (said : Said) (answers : List Answer) (w : Machine) (e : Error) → w.failure ≡ Some e → KeptBlame fixed fed said answers e → BlamedAt fixed over fed said answers w
 error_blamed fixed over fed said answers w e is b = record {
   open_yet = λ going none. none_some e (sym none ∙ is);
-  blame = λ going d some. subst (Blame fixed fed said answers) (same_Some e d (sym is ∙ some)) b;
+  blame = λ going d some. subst (KeptBlame fixed fed said answers) (same_Some e d (sym is ∙ some)) b;
 }
 
 -- ---- the input is read

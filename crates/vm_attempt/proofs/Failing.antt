@@ -1,4 +1,4 @@
--- The run that an attempt's record names as that whose result failed the VM.
+-- The call that failed the VM, and the run that an attempt's record names as that whose result did.
 use Rattle.std.proofs.Common.{◌≡◌, ◌≢◌, ◌⊎◌, ◌++◌, [], ℕ, zero, suc, Bool, true, false, List, Option, Some, None, Result, Ok, Err, refl, sym, ap, ◌∙◌, subst, inl, inr, ⊎_elim, Global}
 use Rattle.std.specs.Prelude.{is_some, if◌then◌else◌}
 use Rattle.std.specs.declared.alloc.AllocError.{AllocError}
@@ -9,7 +9,6 @@ use Rattle.vm_machine.specs.declared.machine.Machine.{Machine}
 use Rattle.vm_machine.specs.declared.phase.Phase.{Phase}
 use Rattle.vm_machine.specs.declared.phase.Phase.TheVariants.{WaitingStart, WaitingReplayEntries, Replaying, Processing, Closed}
 use Rattle.journal_entries.specs.Frames.{frames_of}
-use Rattle.invocation_vm.specs.Making.{made}
 use Rattle.invocation_vm.specs.Views.{StarvesAmong, View, after_input, consumed, messages_in_bytes}
 use Rattle.vm_model.specs.Calls.{Meaning}
 use Rattle.vm_model.specs.Fixed.{Fixed}
@@ -18,8 +17,8 @@ use Rattle.vm_attempt.specs.declared.progress.Reply.{Reply}
 use Rattle.vm_attempt.specs.declared.progress.Reply.TheVariants as reply
 use Rattle.await_trees.specs.declared.tree.UnresolvedFuture.{UnresolvedFuture}
 use Rattle.vm_attempt.specs.Record.{Record}
-use Rattle.vm_attempt.specs.Stepping.{Advances, CloseDoes, FeedDoes, FeedsPiece, FinishDoes, InputIsClosed, InputIsRead, LacksMemory, MakesStep, StepAt, StepDoes, StepFrom, StepUnless, Takes, fresh_record, future_in, kept_at, replied, step_asked, with_piece_kept, with_vm}
-use Rattle.vm_attempt.specs.Courses.{FailedByResult, Leads, OneCall}
+use Rattle.vm_attempt.specs.Stepping.{Advances, CloseDoes, FeedDoes, FeedsPiece, FinishDoes, InputIsClosed, InputIsRead, LacksMemory, MakesStep, StepAt, StepDoes, StepFrom, StepUnless, Takes, future_in, kept_at, replied, step_asked, with_piece_kept, with_vm}
+use Rattle.vm_attempt.specs.Courses.{FailedByCall, FailedByResult, Leads, OneCall, first_record}
 use Rattle.vm_attempt.specs.Courses.OneCall.{Feeding, Closing, Stepping, Telling, Taking}
 use Rattle.vm_attempt.proofs.Blamed.{closing_not, none_some}
 use Rattle.vm_attempt.proofs.Finishing.{FailsNow, Stays as StaysTold, finish_fails}
@@ -195,10 +194,39 @@ leads_noted m (suc n) old new handle (mid, call, more) noted =
     (λ (x : FailedByResult m mid new handle). inr (one_more m old mid new handle call x))
     (leads_noted m n mid new handle more noted)
 
-pub failed_by_result : (fixed : Fixed) (alloc : Global) (n : ℕ) (r : Record) (handle : NotificationHandle) → Leads fixed.handler n (fresh_record (made alloc fixed.options fixed.version)) r → r.failed_by ≡ Some handle → FailedByResult fixed.handler (fresh_record (made alloc fixed.options fixed.version)) r handle
+pub failed_by_result : (fixed : Fixed) (alloc : Global) (n : ℕ) (r : Record) (handle : NotificationHandle) → Leads fixed.handler n (first_record alloc fixed) r → r.failed_by ≡ Some handle → FailedByResult fixed.handler (first_record alloc fixed) r handle
 failed_by_result fixed alloc n r handle leads noted =
-    let first = fresh_record (made alloc fixed.options fixed.version) in
+    let first = first_record alloc fixed in
     ⊎_elim
     (λ (x : first.failed_by ≡ Some handle). absurd (let z : None ≡ Some handle = x in cc))
     (λ (x : FailedByResult fixed.handler first r handle). x)
     (leads_noted fixed.handler n first r handle leads noted)
+
+-- ---- the call that failed the VM
+
+one_before : (m : Meaning) (old mid last : Record) (e : Error) → OneCall m old mid → FailedByCall m mid last e → FailedByCall m old last e
+one_before m old mid last e call x = record {
+  before = suc x.before;
+  old = x.old;
+  leads = (mid, call, x.leads);
+  live = x.live;
+  new = x.new;
+  call = x.call;
+  fails = x.fails;
+  after = x.after;
+  further = x.further;
+}
+
+-- from a VM that hasn't failed, one of the calls leads to its error
+failed_among : (m : Meaning) (n : ℕ) (old last : Record) (e : Error) → old.vm.machine.failure ≡ None → Leads m n old last → last.vm.machine.failure ≡ Some e → FailedByCall m old last e
+failed_among m zero old last e live is some = none_some e (sym live ∙ ap (λ (r : Record). r.vm.machine.failure) (sym is) ∙ some)
+failed_among m (suc n) old last e live (mid, call, more) some = by_failure mid.vm.machine.failure refl (λ still. failed_among m n mid last e still more some)
+  where
+    by_failure : (f : Option Error) → mid.vm.machine.failure ≡ f → (mid.vm.machine.failure ≡ None → FailedByCall m mid last e) → FailedByCall m old last e
+    by_failure None still later = one_before m old mid last e call (later still)
+    by_failure (Some d) fails later =
+        let is : d ≡ e = same_Some d e (sym (leads_fails m n mid last d more fails) ∙ some) in
+        record { before = 0; old = old; leads = refl; live = live; new = mid; call = call; fails = fails ∙ ap Some is; after = n; further = more }
+
+pub failed_by_call : (fixed : Fixed) (alloc : Global) (n : ℕ) (r : Record) (e : Error) → Leads fixed.handler n (first_record alloc fixed) r → r.vm.machine.failure ≡ Some e → FailedByCall fixed.handler (first_record alloc fixed) r e
+failed_by_call fixed alloc n r e leads some = failed_among fixed.handler n (first_record alloc fixed) r e refl leads some

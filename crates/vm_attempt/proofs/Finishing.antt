@@ -44,7 +44,7 @@ use Rattle.vm_model.specs.Moves.{Point, start}
 use Rattle.journal_entries.specs.Journal.{stored_form}
 use Rattle.vm_attempt.specs.declared.progress.Progress.{Progress}
 use Rattle.vm_attempt.specs.Arrivals.{AllFound, arriving}
-use Rattle.vm_attempt.specs.Blames.{Blame, BlamedAt, IsBlamed, IsHonest, IsLate, IsOwnError, LateBy}
+use Rattle.vm_attempt.specs.Blames.{BlamedAt, IsBlamed, IsLate, KeptBlame, LateBy}
 use Rattle.vm_attempt.specs.Blames.Blame.{Memory, RunResult}
 use Rattle.vm_attempt.specs.Heard.{Heard, acknowledged_from, proposals_among, proposals_in, with_pieces}
 use Rattle.vm_attempt.specs.Journals.{HasAll, StillWaits, setup_for}
@@ -62,7 +62,6 @@ use Rattle.vm_attempt.proofs.Lasting.{CameBy, came_last, runs_last}
 use Rattle.vm_attempt.proofs.Placing.{come_stands}
 use Rattle.vm_attempt.proofs.Proposed.{arriving_more, found_more, kept_more}
 use Rattle.vm_attempt.proofs.Quiet.{error_quiet, quiet_same, wrote_more}
-use Rattle.vm_attempt.proofs.Replayed.{honest_fails}
 use Rattle.vm_attempt.proofs.Sleeping.{still_quiet}
 use Rattle.vm_attempt.proofs.Steady.{all_proposed, with_proposed, wrote_of}
 use Rattle.vm_attempt.proofs.Written.{frames_propose, proposes_more, proposes_one}
@@ -572,7 +571,7 @@ module _ (fixed : Fixed) (handle : NotificationHandle) (exit : RunExitResult) (p
   -- ---- why it failed
 
   -- a result was refused, or memory ran out
-  refuses_for : (fed : Heard) (said : Said) (answers : List Answer) → said.failed_by ≡ Some handle → (f : FailsBy handle exit policy old new) → (old.vm.machine.version ≡ fixed.version) → (old.vm.machine.options ≡ fixed.options) → Blame fixed fed said answers f.error
+  refuses_for : (fed : Heard) (said : Said) (answers : List Answer) → said.failed_by ≡ Some handle → (f : FailsBy handle exit policy old new) → (old.vm.machine.version ≡ fixed.version) → (old.vm.machine.options ≡ fixed.options) → KeptBlame fixed fed said answers f.error
   refuses_for fed said answers told f ver opt =
       ⊎_elim
       (λ (x : f.error ≡ no_memory). Memory x)
@@ -617,7 +616,7 @@ module _ (fixed : Fixed) (handle : NotificationHandle) (exit : RunExitResult) (p
             place = λ none. none_some f.error (sym none ∙ f.fails.failure);
             made_for = λ none. none_some f.error (sym none ∙ f.fails.failure);
             tail = λ none. none_some f.error (sym none ∙ f.fails.failure);
-            blame = λ e some. subst (Blame fixed (all_heard fixed.version old) (all_said (noting handle old)) old.answers) (same_Some f.error e (sym f.fails.failure ∙ some)) (refuses_for (all_heard fixed.version old) (all_said (noting handle old)) old.answers refl f for.0 for.1);
+            blame = λ e some. subst (KeptBlame fixed (all_heard fixed.version old) (all_said (noting handle old)) old.answers) (same_Some f.error e (sym f.fails.failure ∙ some)) (refuses_for (all_heard fixed.version old) (all_said (noting handle old)) old.answers refl f for.0 for.1);
           }
 
   -- ---- a suspension
@@ -726,7 +725,7 @@ same_error : (d e : Error) → an_error d ≡ an_error e → d ≡ e
 same_error d e h = cc
 
 -- the error that is answered is out of memory, or the VM's
-error_is : (handle : NotificationHandle) (exit : RunExitResult) (policy : RetryPolicy) (old : Record) (e : Error) (new : Record) → FinishDoes old.starved handle exit policy old (Err e) new → (e ≡ no_memory) ⊎ (new.vm.machine.failure ≡ Some e)
+pub error_is : (handle : NotificationHandle) (exit : RunExitResult) (policy : RetryPolicy) (old : Record) (e : Error) (new : Record) → FinishDoes old.starved handle exit policy old (Err e) new → (e ≡ no_memory) ⊎ (new.vm.machine.failure ≡ Some e)
 error_is handle exit policy old e new does = by_test old.starved does
   where
     by_failure : (f : Option Error) → old.vm.machine.failure ≡ f → ReportsRunResult handle exit policy old (Err e) new → (e ≡ no_memory) ⊎ (new.vm.machine.failure ≡ Some e)
@@ -747,26 +746,22 @@ error_is handle exit policy old e new does = by_test old.starved does
     by_test false d = by_failure old.vm.machine.failure refl d
 
 -- the VM of an attempt has failed for a reason
-failed_for : (fixed : Fixed) (r : Record) (e : Error) → IsBlamed fixed r → IsLate fixed r → r.vm.machine.failure ≡ Some e → Blame fixed (all_heard fixed.version r) (all_said r) r.answers e
+failed_for : (fixed : Fixed) (r : Record) (e : Error) → IsBlamed fixed r → IsLate fixed r → r.vm.machine.failure ≡ Some e → KeptBlame fixed (all_heard fixed.version r) (all_said r) r.answers e
 failed_for fixed r e b l some = by_over r.over refl l
   where
-    by_over : (over : Option Progress) → r.over ≡ over → LateBy over fixed r → Blame fixed (all_heard fixed.version r) (all_said r) r.answers e
-    by_over None going none = subst (λ fed. Blame fixed fed (all_said r) r.answers e) (ap (λ l. with_pieces l (heard fixed.version r)) (sym (append-nil r.fed) ∙ ap (λ l. r.fed ++ l) (sym none))) (b.blame going e some)
+    by_over : (over : Option Progress) → r.over ≡ over → LateBy over fixed r → KeptBlame fixed (all_heard fixed.version r) (all_said r) r.answers e
+    by_over None going none = subst (λ fed. KeptBlame fixed fed (all_said r) r.answers e) (ap (λ l. with_pieces l (heard fixed.version r)) (sym (append-nil r.fed) ∙ ap (λ l. r.fed ++ l) (sym none))) (b.blame going e some)
     by_over (Some made) over k = k.blame e some
 
 -- an error has a reason
 pub finish_blame : (fixed : Fixed) (handle : NotificationHandle) (exit : RunExitResult) (policy : RetryPolicy) (old : Record) (result : Result Unit Error) (new : Record) → FinishDoes old.starved handle exit policy old result new → IsBlamed fixed new → IsLate fixed new
-    → IfErr result (λ e. Blame fixed (all_heard fixed.version new) (all_said new) new.answers e)
+    → IfErr result (λ e. KeptBlame fixed (all_heard fixed.version new) (all_said new) new.answers e)
 finish_blame fixed handle exit policy old (Ok t) new does b l = tt
 finish_blame fixed handle exit policy old (Err e) new does b l =
     ⊎_elim
     (λ (x : e ≡ no_memory). Memory x)
     (λ (x : new.vm.machine.failure ≡ Some e). failed_for fixed new e b l x)
     (error_is handle exit policy old e new does)
-
-pub finish_honest : (fixed : Fixed) (all : Heard) (said : Said) (answers : List Answer) (result : Result Unit Error) → IsHonest fixed all → IfErr result (λ e. Blame fixed all said answers e) → IfErr result (λ e. IsOwnError fixed all said answers e)
-finish_honest fixed all said answers (Ok t) honest b = tt
-finish_honest fixed all said answers (Err e) honest b = honest_fails fixed all said answers e honest b
 
 -- ---- the fields, and the record
 

@@ -24,7 +24,7 @@ use Rattle.vm_attempt.specs.declared.progress.Fed.{Fed}
 use Rattle.vm_attempt.specs.declared.progress.Progress.{Progress}
 use Rattle.vm_attempt.specs.declared.progress.Reply.{Reply}
 use Rattle.vm_attempt.specs.declared.progress.Reply.TheVariants as reply
-use Rattle.vm_attempt.specs.Blames.{BadFrame, Began, BehindEnd, Blame, FailsAt, IfError, IsBlamed, IsLate, LateBy, fault_by, fault_among, unknown_fault}
+use Rattle.vm_attempt.specs.Blames.{BadFrame, Began, BehindEnd, FailsAt, IfError, IsBlamed, IsLate, KeptBlame, LateBy, fault_among, fault_by, unknown_fault}
 use Rattle.vm_attempt.specs.Blames.Blame.{Memory, Frame, NoFrame}
 use Rattle.journal_entries.specs.JournalFrames.{is_command_frame, is_ephemeral, is_notification, is_acknowledgement}
 use Rattle.vm_attempt.specs.Record.{Record, Said, heard, all_heard, all_said}
@@ -314,7 +314,7 @@ step_late fixed old result new k l does = by_test old.starved does
 -- ---- the error of a step
 
 -- an error while the attempt isn't over
-open_blame : (fixed : Fixed) (old : Record) (result : Result Progress Error) (new : Record) → old.over ≡ None → IsBlamed fixed new → IsLate fixed new → Errs old result new → IfError result (λ e. Blame fixed (all_heard fixed.version new) (all_said new) new.answers e)
+open_blame : (fixed : Fixed) (old : Record) (result : Result Progress Error) (new : Record) → old.over ≡ None → IsBlamed fixed new → IsLate fixed new → Errs old result new → IfError result (λ e. KeptBlame fixed (all_heard fixed.version new) (all_said new) new.answers e)
 open_blame fixed old (Ok made) new going b l h = tt
 open_blame fixed old (Err e) new going b l h =
     ⊎_elim
@@ -322,26 +322,26 @@ open_blame fixed old (Err e) new going b l h =
     (λ (x : (new.vm.machine.failure ≡ Some e) × (new.over ≡ old.over)).
     let over : new.over ≡ None = x.1 ∙ going in
     let none : new.late ≡ [] = subst (λ o. LateBy o fixed new) over l in
-    subst (λ fed. Blame fixed fed (all_said new) new.answers e) (ap (λ l. with_pieces l (heard fixed.version new)) (sym (append-nil new.fed) ∙ ap (λ l. new.fed ++ l) (sym none))) (b.blame over e x.0))
+    subst (λ fed. KeptBlame fixed fed (all_said new) new.answers e) (ap (λ l. with_pieces l (heard fixed.version new)) (sym (append-nil new.fed) ∙ ap (λ l. new.fed ++ l) (sym none))) (b.blame over e x.0))
     h
 
 -- an error once the attempt is over
-over_blame : (fixed : Fixed) (made : Progress) (old : Record) (result : Result Progress Error) (new : Record) → LateBy (Some made) fixed old → (f : Option Error) → old.vm.machine.failure ≡ f → StepUnless f (Some made) fixed.handler old result new → IfError result (λ e. Blame fixed (all_heard fixed.version new) (all_said new) new.answers e)
+over_blame : (fixed : Fixed) (made : Progress) (old : Record) (result : Result Progress Error) (new : Record) → LateBy (Some made) fixed old → (f : Option Error) → old.vm.machine.failure ≡ f → StepUnless f (Some made) fixed.handler old result new → IfError result (λ e. KeptBlame fixed (all_heard fixed.version new) (all_said new) new.answers e)
 over_blame fixed made old result new l (Some e) is d =
     ⊎_elim
-    (λ (x : result ≡ Err e). subst (λ z. IfError z (λ e. Blame fixed (all_heard fixed.version new) (all_said new) new.answers e)) (sym x) (subst (λ (r : Record). Blame fixed (all_heard fixed.version r) (all_said r) r.answers e) (sym d.1) (l.blame e is)))
-    (λ (x : result ≡ Err no_memory). subst (λ z. IfError z (λ e. Blame fixed (all_heard fixed.version new) (all_said new) new.answers e)) (sym x) (Memory refl))
+    (λ (x : result ≡ Err e). subst (λ z. IfError z (λ e. KeptBlame fixed (all_heard fixed.version new) (all_said new) new.answers e)) (sym x) (subst (λ (r : Record). KeptBlame fixed (all_heard fixed.version r) (all_said r) r.answers e) (sym d.1) (l.blame e is)))
+    (λ (x : result ≡ Err no_memory). subst (λ z. IfError z (λ e. KeptBlame fixed (all_heard fixed.version new) (all_said new) new.answers e)) (sym x) (Memory refl))
     d.0
-over_blame fixed made old result new l None is d = subst (λ z. IfError z (λ e. Blame fixed (all_heard fixed.version new) (all_said new) new.answers e)) (sym d.0) tt
+over_blame fixed made old result new l None is d = subst (λ z. IfError z (λ e. KeptBlame fixed (all_heard fixed.version new) (all_said new) new.answers e)) (sym d.0) tt
 
 -- an error of a step has a reason
-pub step_blame : (fixed : Fixed) (old : Record) (result : Result Progress Error) (new : Record) → HasCome fixed old → IsKeptUnder fixed old → IsBlamed fixed old → IsLate fixed old → StepDoes fixed.handler old result new → IfError result (λ e. Blame fixed (all_heard fixed.version new) (all_said new) new.answers e)
+pub step_blame : (fixed : Fixed) (old : Record) (result : Result Progress Error) (new : Record) → HasCome fixed old → IsKeptUnder fixed old → IsBlamed fixed old → IsLate fixed old → StepDoes fixed.handler old result new → IfError result (λ e. KeptBlame fixed (all_heard fixed.version new) (all_said new) new.answers e)
 step_blame fixed old result new k u b l does = by_over old.over refl l
   where
-    by_test : (made : Progress) → LateBy (Some made) fixed old → (t : Bool) → StepFrom t fixed.handler old result new → old.over ≡ Some made → IfError result (λ e. Blame fixed (all_heard fixed.version new) (all_said new) new.answers e)
-    by_test made l true d over = subst (λ z. IfError z (λ e. Blame fixed (all_heard fixed.version new) (all_said new) new.answers e)) (sym d.0) (Memory refl)
+    by_test : (made : Progress) → LateBy (Some made) fixed old → (t : Bool) → StepFrom t fixed.handler old result new → old.over ≡ Some made → IfError result (λ e. KeptBlame fixed (all_heard fixed.version new) (all_said new) new.answers e)
+    by_test made l true d over = subst (λ z. IfError z (λ e. KeptBlame fixed (all_heard fixed.version new) (all_said new) new.answers e)) (sym d.0) (Memory refl)
     by_test made l false d over = over_blame fixed made old result new l old.vm.machine.failure refl (subst (λ o. StepUnless old.vm.machine.failure o fixed.handler old result new) over d)
 
-    by_over : (over : Option Progress) → old.over ≡ over → LateBy over fixed old → IfError result (λ e. Blame fixed (all_heard fixed.version new) (all_said new) new.answers e)
+    by_over : (over : Option Progress) → old.over ≡ over → LateBy over fixed old → IfError result (λ e. KeptBlame fixed (all_heard fixed.version new) (all_said new) new.answers e)
     by_over None going l' = open_blame fixed old result new going (step_blames fixed old result new k u b does) (step_late fixed old result new k l does) (step_errs fixed old result new b going does)
     by_over (Some made) over l' = by_test made l' old.starved does over

@@ -47,4 +47,5 @@ pub mod Sleeping
 pub mod Living
 pub mod Executing
 pub mod Failing
+pub mod Caused
 pub mod Ending

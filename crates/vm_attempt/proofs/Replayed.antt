@@ -20,11 +20,8 @@ use Rattle.vm_model.proofs.Compared.{attempt_is_told, none_refused}
 use Rattle.vm_model.proofs.RightKinds.{none_unexpected}
 use Rattle.vm_model.proofs.Refusals.{own_reason, refused_stuck}
 use Rattle.vm_model.specs.Refusals.{IsRefusedFor}
-use Rattle.std.specs.Prelude.{Result, Ok, Err}
 use Rattle.vm_attempt.specs.Heard.{Heard}
-use Rattle.vm_attempt.specs.Record.{Said}
-use Rattle.vm_attempt.specs.declared.progress.Progress.{Progress}
-use Rattle.vm_attempt.specs.Blames.{RefusedCall, Blame, IfError, IsHonest, IsOwnError, first_input}
+use Rattle.vm_attempt.specs.Blames.{RefusedCall, Blame, IsHonest, IsOwnError, first_input}
 use Rattle.vm_attempt.specs.Blames.Blame.{Memory, Frame, NoFrame, ClosedEarly, NoInput, NoSkip, Call, RunResult}
 use Rattle.journal_entries.specs.JournalFrames.{as_entries, commands_among, is_command_frame, is_notification, notifications_among, notified_by, recorded_by, told_by}
 use Rattle.vm_attempt.specs.Journals.{setup_for}
@@ -122,8 +119,8 @@ own_refusal fixed fed answers e x is =
     own_reason move x.at.queue x.why (subst (λ l. IsRefusedFor move l x.at.queue x.why) is x.reason)
 
 -- a call of an honest attempt that was refused
-honest_refused : (fixed : Fixed) (fed : Heard) (said : Said) (answers : List Answer) (e : Error) → IsHonest fixed fed → (x : RefusedCall fixed fed answers e) → (left : List RawMessage) → x.at.left ≡ left → IsOwnError fixed fed said answers e
-honest_refused fixed fed said answers e honest x [] is = inr (inr (inl (record {
+honest_refused : (fixed : Fixed) (fed : Heard) (closed : Bool) (answers : List Answer) (R : Error → Type 0) (e : Error) → IsHonest fixed fed → (x : RefusedCall fixed fed answers e) → (left : List RawMessage) → x.at.left ≡ left → IsOwnError fixed fed closed answers R e
+honest_refused fixed fed closed answers R e honest x [] is = inr (inr (inl (record {
   journal = x.journal;
   written = x.written;
   at = x.at;
@@ -139,7 +136,7 @@ honest_refused fixed fed said answers e honest x [] is = inr (inr (inl (record {
   related = x.related;
   error = x.error;
 })))
-honest_refused fixed fed said answers e honest x (c ∷ further) is = absurd (let h = honest.history x.journal.first_frame x.journal.entries x.journal.others x.journal.start x.journal.frames x.journal.reads_start x.journal.count in history_refuses fixed fed x.journal h.0 x.moves x.written x.at x.made c further is x.why x.reason h.1)
+honest_refused fixed fed closed answers R e honest x (c ∷ further) is = absurd (let h = honest.history x.journal.first_frame x.journal.entries x.journal.others x.journal.start x.journal.frames x.journal.reads_start x.journal.count in history_refuses fixed fed x.journal h.0 x.moves x.written x.at x.made c further is x.why x.reason h.1)
 
 -- an acknowledgement is refused in Processing where its proposal isn't kept
 acknowledged_by_kept : (kept : List ProposeRunCompletion) (raw : RawMessage) → is_acknowledgement raw ≡ true → fault_among kept Processing raw ≡ acknowledgement_body_fault kept (acknowledgement_in raw.body)
@@ -164,20 +161,15 @@ honest_frame fixed fed e honest x true is =
     x.late
 
 -- an honest attempt fails for nothing but a reason of its own
-pub honest_fails : (fixed : Fixed) (fed : Heard) (said : Said) (answers : List Answer) (e : Error) → IsHonest fixed fed → Blame fixed fed said answers e → IsOwnError fixed fed said answers e
-honest_fails fixed fed said answers e honest (Memory x) = inl x
-honest_fails fixed fed said answers e honest (Frame x) = absurd (honest_frame fixed fed e honest x (is_acknowledgement x.raw) refl)
-honest_fails fixed fed said answers e honest (NoFrame x y) = absurd (honest.whole x)
-honest_fails fixed fed said answers e honest (ClosedEarly x y z) = inr (inl (x, y, z))
-honest_fails fixed fed said answers e honest (NoInput x) = absurd (let h = honest.history x.first x.entries x.others x.start x.is x.reads x.count in no_input (setup_for fixed x.start) fixed.handler h.0 x.entries h.1 x.none)
-honest_fails fixed fed said answers e honest (NoSkip x) = absurd (let z : Enabled ≡ Disabled = sym honest.premises.replays ∙ x.skips in cc)
-honest_fails fixed fed said answers e honest (Call fails refuses) = ⊎_elim
+pub honest_fails : (fixed : Fixed) (fed : Heard) (closed : Bool) (answers : List Answer) (R : Error → Type 0) (e : Error) → IsHonest fixed fed → Blame fixed fed closed answers R e → IsOwnError fixed fed closed answers R e
+honest_fails fixed fed closed answers R e honest (Memory x) = inl x
+honest_fails fixed fed closed answers R e honest (Frame x) = absurd (honest_frame fixed fed e honest x (is_acknowledgement x.raw) refl)
+honest_fails fixed fed closed answers R e honest (NoFrame x y) = absurd (honest.whole x)
+honest_fails fixed fed closed answers R e honest (ClosedEarly x y z) = inr (inl (x, y, z))
+honest_fails fixed fed closed answers R e honest (NoInput x) = absurd (let h = honest.history x.first x.entries x.others x.start x.is x.reads x.count in no_input (setup_for fixed x.start) fixed.handler h.0 x.entries h.1 x.none)
+honest_fails fixed fed closed answers R e honest (NoSkip x) = absurd (let z : Enabled ≡ Disabled = sym honest.premises.replays ∙ x.skips in cc)
+honest_fails fixed fed closed answers R e honest (Call fails refuses) = ⊎_elim
     (λ (y : e ≡ no_memory). inl y)
-    (λ (y : RefusedCall fixed fed answers e). honest_refused fixed fed said answers e honest y y.at.left refl)
+    (λ (y : RefusedCall fixed fed answers e). honest_refused fixed fed closed answers R e honest y y.at.left refl)
     (refuses honest.premises)
-honest_fails fixed fed said answers e honest (RunResult x) = inr (inr (inr x))
-
--- the error of a step of an honest attempt
-pub honest_errs : (fixed : Fixed) (all : Heard) (said : Said) (answers : List Answer) (result : Result Progress Error) → IsHonest fixed all → IfError result (λ e. Blame fixed all said answers e) → IfError result (λ e. IsOwnError fixed all said answers e)
-honest_errs fixed all said answers (Ok progress) honest b = tt
-honest_errs fixed all said answers (Err e) honest b = honest_fails fixed all said answers e honest b
+honest_fails fixed fed closed answers R e honest (RunResult x) = inr (inr (inr x))

@@ -2,9 +2,9 @@
 use Rattle.std.specs.Prelude.{Result}
 use Rattle.journal_protocol.specs.Error.{Error}
 use Rattle.vm_attempt.specs.declared.progress.Progress.{Progress}
-use Rattle.vm_attempt.specs.Record.{Record, all_heard, all_said, heard}
+use Rattle.vm_attempt.specs.Record.{Record, all_heard, heard}
 use Rattle.vm_model.specs.Fixed.{Fixed}
-use Rattle.vm_attempt.specs.Blames.{Blame, IsHonest, IsOwnError}
+use Rattle.vm_attempt.specs.Blames.{Blame, ComesByCall, IsHonest, IsOwnError, RefusedResult}
 use Rattle.vm_attempt.specs.Told.{AnswersAreTold, NothingWakes, NumbersFreshly, Premises, ProvesHistory, ReplayPremises, AnswersInReplay}
 
 -- ---- what is asked
@@ -42,13 +42,19 @@ StepReplays fixed old result new = AnswersInReplay fixed old result new
 abbrev pub ProvesItsJournal : Fixed → Record → Type 0
 ProvesItsJournal fixed r = ProvesHistory fixed (heard fixed.version r)
 
--- The error has one of the causes that an attempt's error can have.
+-- The error has one of the causes that an attempt's error can have; and it is out of memory, or one
+-- of the attempt's calls brought it.
 abbrev pub HasCause : Fixed → Record → Error → Type 0
-HasCause fixed r e = Blame fixed (all_heard fixed.version r) (all_said r) r.answers e
+HasCause fixed r e =
+    Blame fixed (all_heard fixed.version r) r.closed r.answers (RefusedResult fixed r) e
+    × ComesByCall fixed r e
 
--- The error is the attempt's own: none that an honest attempt never has, as a mismatch.
+-- The error is the attempt's own: none that an honest attempt never has, as a mismatch; and it is
+-- out of memory, or one of the attempt's calls brought it.
 abbrev pub IsItsOwn : Fixed → Record → Error → Type 0
-IsItsOwn fixed r e = IsOwnError fixed (all_heard fixed.version r) (all_said r) r.answers e
+IsItsOwn fixed r e =
+    IsOwnError fixed (all_heard fixed.version r) r.closed r.answers (RefusedResult fixed r) e
+    × ComesByCall fixed r e
 
 -- If recorded commands are skipped, the commands that it wrote carry completion ids greater than
 -- all that its journal's commands carry.

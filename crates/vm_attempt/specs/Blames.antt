@@ -1,6 +1,7 @@
 -- Why an attempt failed.
 use Rattle.std.specs.Prelude.{◌≡◌, ◌≢◌, ◌⊎◌, ℕ, ◌+◌, ◌<◌, ◌≤◌, ◌==◌, Bool, true, false, if◌then◌else◌, length, drop, List, [], ◌∷◌, ◌++◌, Option, Some, None, Result, Ok, Err}
 use Rattle.std.specs.Result.{result_err}
+use Rattle.std.proofs.Common.{Global}
 use Rattle.journal_protocol.specs.InputCommand.{InputCommand}
 use Rattle.journal_protocol.specs.Error.{Error}
 use Rattle.journal_protocol.specs.RelatedCommand.{RelatedCommand}
@@ -43,6 +44,7 @@ use Rattle.journal_entries.specs.Journal.{input_read_from}
 use Rattle.vm_model.specs.Moves.{Point}
 use Rattle.vm_model.specs.Refusals.{IsRefusedFor}
 use Rattle.vm_attempt.specs.Arrivals.{kept_after}
+use Rattle.vm_attempt.specs.Courses.{FailedByCall, FailedByResult, first_record}
 use Rattle.vm_attempt.specs.Heard.{Heard}
 use Rattle.vm_attempt.specs.Steps.{Performs}
 use Rattle.vm_attempt.specs.Stepping.{asked_from}
@@ -248,7 +250,8 @@ pub record CannotSkip (fixed : Fixed) (frames : List RawMessage) (e : Error) : T
   pub error : e ≡ ruled_for fixed (named_error why (Some the_input))
 
 -- The handler's call was refused for this reason, at the point with these answers to which the
--- attempt's own run leads: it made what was written.
+-- attempt's own run leads: it made what was written. To which command the error relates depends on
+-- the machine, so `ComesByCall` says it, by the call.
 pub record RefusedCall (fixed : Fixed) (fed : Heard) (answers_so_far : List Answer)
     (e : Error) : Type 0 where
   pub journal : Journal fed
@@ -275,8 +278,9 @@ pub record FailsAtCall (fixed : Fixed) (answers_so_far : List Answer) (e : Error
 -- ---- results of runs
 
 -- The outcome of an executed run was refused, or fails the attempt, so that it is tried again or
--- paused. It is the run whose result failed the VM.
-pub record RefusedResult (fixed : Fixed) (failed_by : Option NotificationHandle)
+-- paused, in some machine of this version. It is the run whose result failed the VM. So much an
+-- attempt keeps of such an error; `RefusedResult` says which report it was.
+pub record ReportedResult (fixed : Fixed) (failed_by : Option NotificationHandle)
     (e : Error) : Type 0 where
   pub handle : NotificationHandle
   pub is_told : failed_by ≡ Some handle
@@ -289,33 +293,57 @@ pub record RefusedResult (fixed : Fixed) (failed_by : Option NotificationHandle)
   pub version_is : machine.version ≡ fixed.version
   pub error : e ≡ ruled_for fixed why
 
+-- The outcome of an executed run was refused, or fails the attempt, so that it is tried again or
+-- paused. It was reported in one of the calls that led to this record, to a VM that hadn't failed;
+-- this error is what the VM returned, and its failure since then.
+pub record RefusedResult (fixed : Fixed) (r : Record) (e : Error) : Type 0 where
+  pub handle : NotificationHandle
+  pub is_told : r.failed_by ≡ Some handle
+  pub alloc : Global
+  pub reported : FailedByResult fixed.handler (first_record alloc fixed) r handle
+  pub error : e ≡ reported.error
+
 -- ---- why an attempt failed
 
 -- Out of memory; a frame was refused, or bytes were no frame; the input was closed while known
 -- entries were missing; the journal has no input, or its commands can't be skipped; the handler's
 -- call was refused, or an await found no memory for one of its commands; or a run's result failed
--- the VM.
-pub data Blame (fixed : Fixed) (fed : Heard) (said : Said) (answers : List Answer)
-    (e : Error) : Type 0 where
-  Memory : e ≡ no_memory → Blame fixed fed said answers e
-  Frame : BadFrame fixed fed e → Blame fixed fed said answers e
+-- the VM, as `ByResult` says of the error.
+pub data Blame (fixed : Fixed) (fed : Heard) (closed : Bool) (answers : List Answer)
+    (ByResult : Error → Type 0) (e : Error) : Type 0 where
+  Memory : e ≡ no_memory → Blame fixed fed closed answers ByResult e
+  Frame : BadFrame fixed fed e → Blame fixed fed closed answers ByResult e
   NoFrame : (frames_of (bytes_fed fed)).1 ≡ Garbage → e
-      ≡ ruled_for fixed (named_error fault.BadMessage None) → Blame fixed fed said answers e
-  ClosedEarly : said.closed ≡ true → LacksEntries (frames_fed fed) → e
+      ≡ ruled_for fixed (named_error fault.BadMessage None)
+      → Blame fixed fed closed answers ByResult e
+  ClosedEarly : closed ≡ true → LacksEntries (frames_fed fed) → e
       ≡ ruled_for fixed (named_error fault.InputClosedWhileWaitingEntries None)
-      → Blame fixed fed said answers e
-  NoInput : LacksInput fixed (frames_fed fed) e → Blame fixed fed said answers e
-  NoSkip : CannotSkip fixed (frames_fed fed) e → Blame fixed fed said answers e
+      → Blame fixed fed closed answers ByResult e
+  NoInput : LacksInput fixed (frames_fed fed) e → Blame fixed fed closed answers ByResult e
+  NoSkip : CannotSkip fixed (frames_fed fed) e → Blame fixed fed closed answers ByResult e
   Call : FailsAtCall fixed answers e
       → (Premises fixed fed → (e ≡ no_memory) ⊎ RefusedCall fixed fed answers e)
-      → Blame fixed fed said answers e
-  RunResult : RefusedResult fixed said.failed_by e → Blame fixed fed said answers e
+      → Blame fixed fed closed answers ByResult e
+  RunResult : ByResult e → Blame fixed fed closed answers ByResult e
+
+-- Why an attempt failed, by what it keeps of itself.
+abbrev pub KeptBlame : Fixed → Heard → Said → List Answer → Error → Type 0
+KeptBlame fixed fed said answers e =
+    Blame fixed fed said.closed answers (ReportedResult fixed said.failed_by) e
+
+-- Out of memory, or the error by which one of the attempt's calls failed its VM. What that call
+-- does fixes its text, its code, what becomes of the invocation, and the command that it relates
+-- to.
+abbrev pub ComesByCall : Fixed → Record → Error → Type 0
+ComesByCall fixed r e =
+    (e ≡ no_memory)
+    ⊎ ((alloc : Global) × FailedByCall fixed.handler (first_record alloc fixed) r e)
 
 -- As long as an attempt is not over, its VM isn't closed, and has failed only for such a reason.
 pub record BlamedAt (fixed : Fixed) (over : Option Progress) (fed : Heard) (said : Said)
     (answers : List Answer) (v : Machine) : Type 0 where
   pub open_yet : over ≡ None → v.failure ≡ None → v.phase ≢ Closed
-  pub blame : over ≡ None → (e : Error) → v.failure ≡ Some e → Blame fixed fed said answers e
+  pub blame : over ≡ None → (e : Error) → v.failure ≡ Some e → KeptBlame fixed fed said answers e
 
 -- the same of a record
 abbrev pub IsBlamed : Fixed → Record → Type 0
@@ -330,7 +358,7 @@ pub record BehindEnd (fixed : Fixed) (all : Heard) (said : Said) (answers : List
   pub made_for : vm.machine.failure ≡ None → (vm.machine.version ≡ fixed.version)
       × (vm.machine.options ≡ fixed.options)
   pub tail : vm.machine.failure ≡ None → (frames_of (bytes_fed all)).1 ≡ Rest vm.undecoded
-  pub blame : (e : Error) → vm.machine.failure ≡ Some e → Blame fixed all said answers e
+  pub blame : (e : Error) → vm.machine.failure ≡ Some e → KeptBlame fixed all said answers e
 
 -- before the end no piece comes late
 abbrev pub LateBy : Option Progress → Fixed → Record → Type 0
@@ -386,10 +414,10 @@ pub record RefusedItself (fixed : Fixed) (fed : Heard) (answers_so_far : List An
   pub related : Option RelatedCommand
   pub error : e ≡ ruled_for fixed (named_error why related)
 
--- what an error of an honest attempt is
-abbrev pub IsOwnError : Fixed → Heard → Said → List Answer → Error → Type 0
-IsOwnError fixed fed said answers e =
+-- what an error of an honest attempt is, where this says of it that a run's result failed the VM
+abbrev pub IsOwnError : Fixed → Heard → Bool → List Answer → (Error → Type 0) → Error → Type 0
+IsOwnError fixed fed closed answers ByResult e =
     (e ≡ no_memory)
-    ⊎ (((said.closed ≡ true) × LacksEntries (frames_fed fed)
+    ⊎ (((closed ≡ true) × LacksEntries (frames_fed fed)
     × (e ≡ ruled_for fixed (named_error fault.InputClosedWhileWaitingEntries None)))
-    ⊎ (RefusedItself fixed fed answers e ⊎ RefusedResult fixed said.failed_by e))
+    ⊎ (RefusedItself fixed fed answers e ⊎ ByResult e))

@@ -152,7 +152,8 @@ impl<H: Handler> Attempt<H> {
             → StepReplays (fixed_of (H.meaning self.old.handler) self.old)
             self.old.record_of result self.new.record_of }
         // An error is out of memory, a frame or bytes that were refused, input closed too early, a journal without input, a call that was
-        // refused, or a run's result that failed the VM.
+        // refused, or a run's result that failed the VM: one of the results that were reported, with what the VM returned for it. Each error
+        // but out of memory is that by which one of the attempt's calls failed the VM.
         ensures blamed { IfError result (HasCause
             (fixed_of (H.meaning self.old.handler) self.old) self.new.record_of) }
         // If the bytes are an honest attempt's over a history of the handler, an error is only out of memory, input that was closed
@@ -186,7 +187,7 @@ impl<H: Handler> Attempt<H> {
         ensures does { FinishDoes self.old.record_of.starved handle exit policy
             self.old.record_of result self.new.record_of }
         // An error is out of memory, the VM's first error, or that of this result, which is refused, or by which the run is tried again or
-        // the invocation paused.
+        // the invocation paused. Each error but out of memory is that by which one of the attempt's calls failed the VM.
         ensures blamed { IfErr result (HasCause
             (fixed_of (H.meaning self.old.handler) self.old) self.new.record_of) }
         ensures honest { IsHonestlyFed

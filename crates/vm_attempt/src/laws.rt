@@ -25,7 +25,7 @@ ghost use Rattle.vm_parts.specs.Outboxes.{WholeFrames};
 ghost use Rattle.vm_attempt.specs.Agreement.{Agrees, Aside, CallFollows};
 ghost use Rattle.vm_attempt.specs.Courses.{FailedByResult, Leads};
 ghost use Rattle.vm_model.specs.Fixed.{Fixed};
-ghost use Rattle.vm_attempt.specs.Blames.{Blame, FailsAt, IsHonest, IsOwnError};
+ghost use Rattle.vm_attempt.specs.Blames.{Blame, FailsAt, IsHonest, IsOwnError, RefusedResult};
 ghost use Rattle.vm_attempt.specs.Ending.{FinishesOn, GoesToEnd, IsRunning};
 ghost use Rattle.vm_attempt.specs.Honest.{FeedsHonestly};
 ghost use Rattle.vm_model.specs.Finished.{HasFinished};
@@ -46,9 +46,9 @@ ghost use Rattle.vm_retries.specs.declared.policy.RetryPolicy.{RetryPolicy};
 ghost use Rattle.vm_types.specs.declared.runs.RunExitResult.{RunExitResult};
 ghost use Rattle.vm_attempt.specs.Stepping.{CloseDoes, FeedDoes, FinishDoes, StepDoes, Takes, fresh_record};
 ghost use Rattle.vm_attempt.specs.Heard.{Heard};
-ghost use Rattle.vm_attempt.specs.Record.{Record, Said, heard};
+ghost use Rattle.vm_attempt.specs.Record.{Record, heard};
 ghost use Rattle.invocation_vm.specs.Views.{View, after_input};
-ghost use Rattle.std.specs.Prelude.{ℕ, Option, Some};
+ghost use Rattle.std.specs.Prelude.{ℕ, Bool, Option, Some};
 ghost use Rattle.vm_types.specs.declared.steps.Answer.{Answer};
 ghost use Rattle.await_trees.specs.declared.tree.UnresolvedFuture.{UnresolvedFuture};
 
@@ -163,9 +163,9 @@ pub fn answers_are_told()
 /// was closed while known entries were missing; or, once no recorded command is left, a call's own refusal, for an argument or
 /// version check, a kind of number that ran out, or a state key that is no text; or that of a run's result that failed the VM.
 pub fn honest_attempts_fail_by_themselves()
-    ensures { (fixed : Fixed) (fed : Heard) (said : Said) (answers : List Answer) (e : Error)
-        → IsHonest fixed fed → Blame fixed fed said answers e
-        → IsOwnError fixed fed said answers e }
+    ensures { (fixed : Fixed) (r : Record) (fed : Heard) (closed : Bool) (answers : List Answer)
+        (e : Error) → IsHonest fixed fed → Blame fixed fed closed answers (RefusedResult fixed r) e
+        → IsOwnError fixed fed closed answers (RefusedResult fixed r) e }
 {}
 
 /// Bytes that are a beginning of Start, of the whole journal, which is a history of the handler, and of notifications after it are

@@ -6,6 +6,7 @@ mod ephemeral;
 mod input;
 mod messages;
 mod reads;
+mod recorded_reads;
 mod reports;
 mod several;
 mod signals;

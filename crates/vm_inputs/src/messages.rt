@@ -137,6 +137,9 @@ fn count_entry(machine: &mut Machine)
     machine.entries_missing = machine.entries_missing.saturating_sub(1);
 }
 
+/// For how many recorded commands room is made at once, if that many entries are known.
+const FEW: u32 = 8;
+
 fn receive_command(machine: &mut Machine, raw: RawMessage) -> Result<(), Fault>
     ensures step { Gives (entry_step raw machine.old.phase machine.old) result machine.old
         machine.new }
@@ -145,6 +148,10 @@ fn receive_command(machine: &mut Machine, raw: RawMessage) -> Result<(), Fault>
 {
     if !matches!(machine.phase, Phase::WaitingReplayEntries) {
         return Err(refuse(NamedFault::UnexpectedEntryMessage));
+    }
+    if machine.commands.is_empty() {
+        let few = machine.entries_missing.min(FEW);
+        machine.commands.reserve(few as usize)?;
     }
     machine.commands.push(raw)?;
     count_entry(machine);

@@ -9,6 +9,7 @@ ghost use Rattle.vm_machine.specs.Commands.{entered, handed_out};
 ghost use Rattle.vm_machine.specs.Outcomes.{Gives, lasting};
 ghost use Rattle.vm_machine.specs.Reads.{StateIsRead, ReadsNumbered, read_popped, read_step, read_written, with_read_ready};
 
+use crate::recorded_reads::recorded_as;
 use await_trees::NotificationHandle;
 use journal_protocol::{
     GetEagerStateCommand, GetLazyStateCommand, Message, MessageType, NamedFault,
@@ -193,7 +194,7 @@ fn replay_read(
     };
     machine.last_command.ty = read.recorded_type(&raw);
     machine.last_command.name = Text::empty(machine.alloc);
-    match read.recorded_as(machine.alloc, id, &raw)? {
+    match recorded_as(read, machine.alloc, id, &raw)? {
         Ok(given) => {
             put_result(machine, id, given)?;
             Ok(NotificationHandle(handle))

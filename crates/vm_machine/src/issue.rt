@@ -14,8 +14,9 @@ use crate::machine::Machine;
 use crate::phase::Phase;
 use await_trees::NotificationHandle;
 use journal_protocol::{
-    Error, Message, MessageType, NamedFault, NotificationId, RawMessage, RelatedCommand, header_eq,
+    Error, Message, MessageType, NamedFault, NotificationId, RawMessage, RelatedCommand,
 };
+use journal_replay::header_eq;
 use plain::{Text, copy_of};
 use std::alloc::{AllocError, Global};
 use vm_asks::Command;
@@ -78,6 +79,7 @@ fn checks_are_off(option: NonDeterministicChecksOption) -> bool
 
 impl Machine {
     /// Counts a command, and keeps its type and name.
+    #[inline(always)]
     pub fn enter(&mut self, ty: MessageType, name: Text)
         ensures { self.new ≡ entered ty name self.old }
     {
@@ -168,6 +170,7 @@ impl Machine {
     }
 
     /// Gives this number of next handles the next completion ids.
+    #[inline(always)]
     pub fn hand_out(&mut self, ids: u32) -> Result<(), AllocError>
         requires ids { self.old.counters.completion + ids < 2 ^ 32 }
         requires handles { self.old.counters.handle + ids < 2 ^ 32 }
@@ -282,6 +285,7 @@ impl Machine {
     }
 
     /// A call that has a command, unless its arguments refuse it.
+    #[inline(always)]
     pub fn command(&mut self, command: &mut Command) -> Result<NotificationHandle, Fault>
         ensures { Carries command.old result self.old self.new }
     {

@@ -128,6 +128,7 @@ impl AsyncResults {
         ensures { IfOk result (λ results. results ≡ no_results) }
     {
         let mut handles = Handles::new(alloc);
+        handles.reserve_few()?;
         handles.push(Mapping {
             handle: 1,
             id: NotificationId::SignalId(1),

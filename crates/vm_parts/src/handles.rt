@@ -171,6 +171,13 @@ impl Handles {
         }
     }
 
+    /// Makes room for a few handles.
+    pub fn reserve_few(&mut self) -> Result<(), AllocError>
+        ensures { self.new ≡ self.old }
+    {
+        self.ascending.reserve(FEW)
+    }
+
     /// Gives back the memory of the handles that were forgotten, if there are 4 of them for each other.
     fn give_back(&mut self)
         ensures { self.new ≡ self.old }

@@ -34,6 +34,13 @@ impl<T> Queue<T> {
         self.items.is_empty()
     }
 
+    /// Makes room for this many more items.
+    pub fn reserve(&mut self, more: usize) -> Result<(), AllocError>
+        ensures { self.new ≡ self.old }
+    {
+        self.items.reserve(more)
+    }
+
     /// Appends an item.
     pub fn push(&mut self, item: T) -> Result<(), AllocError>
     where

@@ -1,26 +1,22 @@
 -- What an attempt was fed that got Start and a history alone: it is an honest attempt's, and its journal is the history.
-use Rattle.std.proofs.Common.{◌≡◌, ◌≢◌, ⊎_elim, ℕ, suc, Bool, true, false, ◌||◌, List, [], ◌∷◌, ◌++◌, length, Option, Some, None, refl, sym, ap, ◌∙◌, subst, arith, append-nil}
-use Rattle.std.specs.Prelude.{◌==◌, if◌then◌else◌}
-use Rattle.std.specs.List.{AllByRecursion, concat}
-use Rattle.std.proofs.lemmas.Bool.Decides.{nat_tests}
-use Rattle.std.proofs.lemmas.Option.{same_Some}
+use Rattle.std.proofs.Common.{◌≡◌, ⊎_elim, ℕ, List, [], ◌∷◌, ◌++◌, Some, None, refl, sym, ap, ◌∙◌, subst, append-nil}
+use Rattle.std.specs.Prelude.{if◌then◌else◌}
+use Rattle.std.specs.List.{concat}
 use Rattle.journal_protocol.specs.Start.{Start}
 use Rattle.journal_protocol.specs.Message.TheVariants as message
 use Rattle.journal_protocol.specs.RawMessage.{RawMessage}
 use Rattle.journal_protocol.specs.Notification.{Notification}
 use Rattle.journal_protocol.specs.Frames.{IsWhole, encoding}
-use Rattle.journal_protocol.specs.Bodies.{message_in, start_in}
-use Rattle.journal_entries.specs.Frames.{Garbage, Rest, Tail, frames_of}
+use Rattle.journal_entries.specs.Frames.{Garbage, Rest, Tail}
 use Rattle.journal_entries.specs.Journal.{notifications_in, stored_form}
 use Rattle.journal_entries.specs.JournalFrames.{commands_among}
-use Rattle.journal_entries.specs.Entries.{AreEntries, frame_in, framed_by, journal_entries, journal_frames, may_stand, notes_in}
-use Rattle.journal_entries.proofs.Framing.{AreFrames, join, journal_framed, journal_length, notes_are, same_front}
+use Rattle.journal_entries.specs.Entries.{journal_entries, journal_frames, notes_in}
+use Rattle.journal_entries.proofs.Framing.{journal_length, notes_are}
 use Rattle.vm_asks.specs.Carried.{all_carried}
 use Rattle.vm_state.specs.declared.state_map.StateMap.{StateMap}
 use Rattle.vm_state.specs.Entries.{entries_of as state_entries}
-use Rattle.vm_machine.specs.Inputs.{entries_in}
-use Rattle.vm_model.specs.Calls.{Meaning, Setup}
-use Rattle.vm_model.specs.Carried.{AreCarried, AreOfTheirKind, ComeOnce, is_for_invocation, names_invocation}
+use Rattle.vm_model.specs.Calls.{Meaning}
+use Rattle.vm_model.specs.Carried.{AreCarried, AreOfTheirKind, ComeOnce}
 use Rattle.vm_model.specs.Deliveries.{HasNoTwo}
 use Rattle.vm_model.specs.Histories.{Handed, History, Made}
 use Rattle.vm_model.specs.Moves.{Point, start as first_point}
@@ -28,9 +24,8 @@ use Rattle.vm_model.proofs.Compared.{attempt_is_told}
 use Rattle.vm_model.proofs.Once.{run_once}
 use Rattle.vm_attempt.specs.Blames.{IsHonest}
 use Rattle.vm_attempt.specs.Heard.{Heard}
-use Rattle.vm_attempt.specs.Journals.{setup_for}
-use Rattle.vm_attempt.specs.Told.{Journal, bytes_fed, frames_fed}
-use Rattle.vm_attempt.proofs.Replayed.{commands_same, head_same, notes_same, tail_same}
+use Rattle.vm_attempt.specs.Told.{bytes_fed, frames_fed}
+use Rattle.vm_attempt.proofs.Replayed.{commands_same, notes_same}
 use Rattle.world_rounds.specs.Courses.{start_handed}
 use Rattle.world_rounds.specs.declared.types.Round.{Round}
 use Rattle.world_rounds.specs.declared.types.Setting.{Setting}
@@ -38,34 +33,13 @@ use Rattle.world_rounds.specs.Rounds.{ReplaysAndQueues}
 use Rattle.world_rounds.specs.States.{HaveTextKeys, base_of, pairs_for}
 use Rattle.world_rounds.specs.Worlds.{IsJournal, fixed_in, setup_of, start_for, start_message}
 use Rattle.world_rounds.proofs.Completing.{carried_behind}
-use Rattle.world_rounds.proofs.Fed.{FedFrames, IsEntryFrame, fed_honestly}
+use Rattle.world_rounds.proofs.Fed.{FedFrames, fed_honestly}
+use Rattle.world_rounds.proofs.Honestly.{entry_frames, named_behind, some_known}
 use Rattle.world_rounds.proofs.Once.{come_once}
+use Rattle.world_rounds.proofs.Replaying.{all_framed}
 use Rattle.world_rounds.proofs.RightKinds.{each_right, with_input}
 use Rattle.world_rounds.proofs.Rising.{Rises, told_rises}
-use Rattle.world_rounds.proofs.Rounding.{start_framed, start_reads}
-
--- the frames of a journal are those of entries
-entry_frames : (journal : List (List ℕ)) → AreEntries journal → AllByRecursion IsEntryFrame (journal_frames journal)
-entry_frames [] all = tt
-entry_frames (x ∷ xs) all = by_frame (frame_in x) all.0 (entry_frames xs all.1)
-  where
-    by_frame : (o : Option RawMessage) → may_stand o ≡ true → AllByRecursion IsEntryFrame (journal_frames xs) → AllByRecursion IsEntryFrame (framed_by o (journal_frames xs))
-    by_frame None may more = absurd (cc)
-    by_frame (Some raw) may more = (may, more)
-
-not_none : (n : ℕ) → (suc n == 0) ≡ false
-not_none n = grind (arith, nat_tests)
-
-some_known : (n : ℕ) (xs : List RawMessage) (c : RawMessage) (cs : List RawMessage) → n ≡ length xs → commands_among xs ≡ c ∷ cs → (n == 0) ≡ false
-some_known n [] c cs is h = absurd (cc)
-some_known n (x ∷ xs) c cs is h = ap (λ k. k == 0) is ∙ not_none (length xs)
-
-named_behind : (id : ℕ) (c : RawMessage) (cs : List RawMessage) → is_for_invocation id cs ≡ true → is_for_invocation id (c ∷ cs) ≡ true
-named_behind id c cs h = by_test (names_invocation id (message_in c.ty c.body)) h
-  where
-    by_test : (b : Bool) → is_for_invocation id cs ≡ true → (b || is_for_invocation id cs) ≡ true
-    by_test true e = refl
-    by_test false e = e
+use Rattle.world_rounds.proofs.Rounding.{start_reads}
 
 module _ (m : Meaning) (w : Setting) (round : Round) (old : List (List ℕ)) (fed : Heard) (j : IsJournal old) (whole : IsWhole (start_message w round old)) (bytes : bytes_fed fed ≡ encoding (start_message w round old) ++ concat old) where
   abbrev st : Start
@@ -73,29 +47,6 @@ module _ (m : Meaning) (w : Setting) (round : Round) (old : List (List ℕ)) (fe
 
   abbrev raw : RawMessage
   raw = stored_form (message.Start st)
-
-  pub all_framed : AreFrames (bytes_fed fed) (raw ∷ journal_frames old)
-  all_framed = ap frames_of bytes ∙ join (encoding (message.Start st)) (concat old) (raw ∷ []) (journal_frames old) (start_framed st whole) (journal_framed old j.entries)
-
-  -- what was fed is the journal, and nothing more
-  pub record IsAlone (J : Journal fed) : Type 0 where
-    pub start : J.start ≡ st
-    pub entries : J.entries ≡ journal_frames old
-    pub others : J.others ≡ []
-
-  pub is_alone : (J : Journal fed) → IsAlone J
-  is_alone J =
-      let same : raw ∷ journal_frames old ≡ J.first_frame ∷ (J.entries ++ J.others) = ap (λ (p : List RawMessage × Tail). p.0) (sym all_framed) ∙ J.frames in
-      let head : raw ≡ J.first_frame = head_same raw J.first_frame (journal_frames old) (J.entries ++ J.others) same in
-      let tail : journal_frames old ≡ J.entries ++ J.others = tail_same raw J.first_frame (journal_frames old) (J.entries ++ J.others) same in
-      let is_st : J.start ≡ st = same_Some J.start st (sym J.reads_start ∙ ap (λ (x : RawMessage). start_in x.body) (sym head) ∙ start_reads st whole) in
-      let count : length (journal_frames old) ≡ length J.entries = journal_length old j.entries ∙ sym (J.count ∙ ap (λ (x : Start). x.known_entries) is_st) in
-      let both = same_front (journal_frames old) J.entries [] J.others count (append-nil (journal_frames old) ∙ tail) in
-      record { start = is_st; entries = sym both.0; others = sym both.1 }
-
-  -- what is so of the journal is so of what was fed
-  pub of_fed : (T : Setup → List RawMessage → Type 0) (J : Journal fed) → T (setup_of w) (journal_frames old) → T (setup_for (fixed_in m w) J.start) J.entries
-  of_fed T J t = let x = is_alone J in subst (λ (z : Start × List RawMessage). T (setup_for (fixed_in m w) z.0) z.1) (λ i. (sym x.start i, sym x.entries i)) t
 
   module _ (texts : HaveTextKeys (pairs_for w round old)) (past : History (setup_of w) m (base_of w) (journal_entries old)) (r : ReplaysAndQueues w.options) where
     abbrev given : StateMap
@@ -148,8 +99,8 @@ module _ (m : Meaning) (w : Setting) (round : Round) (old : List (List ℕ)) (fe
       some = some_known st.known_entries (journal_frames old) past.first past.rest (sym (journal_length old j.entries)) all_commands;
       known = sym (journal_length old j.entries);
       others = [];
-      all = append-nil (frames_fed fed) ∙ ap (λ (p : List RawMessage × Tail). p.0) all_framed ∙ ap (λ l. raw ∷ l) (sym (append-nil (journal_frames old)));
-      clean = λ h. let z : Rest [] ≡ Garbage = sym (ap (λ (p : List RawMessage × Tail). p.1) all_framed) ∙ h in cc;
+      all = append-nil (frames_fed fed) ∙ ap (λ (p : List RawMessage × Tail). p.0) (all_framed m w round old fed j whole bytes) ∙ ap (λ l. raw ∷ l) (sym (append-nil (journal_frames old)));
+      clean = λ h. let z : Rest [] ≡ Garbage = sym (ap (λ (p : List RawMessage × Tail). p.1) (all_framed m w round old fed j whole bytes)) ∙ h in cc;
       entries = entry_frames old j.entries;
       more = tt;
       found = tt;

@@ -32,6 +32,7 @@ use Rattle.vm_attempt.specs.Stepping.{CloseDoes, CompletesRun, FeedDoes, FinishD
 use Rattle.vm_attempt.specs.declared.progress.Progress.{Progress}
 use Rattle.vm_attempt.specs.Courses.{Leads, OneCall}
 use Rattle.vm_attempt.specs.Courses.OneCall.{Feeding, Closing, Stepping, Telling, Taking}
+use Rattle.vm_attempt.proofs.Caused.{leads_more}
 use Rattle.vm_attempt.proofs.Under.{step_fed}
 use Rattle.vm_attempt.proofs.Written.{frames_propose, proposes_one}
 use Rattle.world_laws.specs.Reports.{WasReported}
@@ -147,10 +148,6 @@ grown P Q f (x ∷ xs) ys h k = (f x h.0, grown P Q f xs ys h.1 k)
 
 pub each : {A : Type 0} (P Q : A → Type 0) (f : (x : A) → P x → Q x) (xs : List A) (h : AllByRecursion P xs) → AllByRecursion Q xs
 each P Q f xs h = subst (AllByRecursion Q) (append-nil xs) (grown P Q f xs [] h tt)
-
-leads_more : (m : StepFunction) (n : ℕ) (first mid last : Record) → Leads m n first mid → OneCall m mid last → Leads m (suc n) first last
-leads_more m zero first mid last is call = (last, subst (λ (r : Record). OneCall m r last) is call, refl)
-leads_more m (suc n) first mid last (next, one, more) call = (next, one, leads_more m n next mid last more call)
 
 module _ (m : StepFunction) (first : Record) where
   abbrev Reported : Record → Type 0

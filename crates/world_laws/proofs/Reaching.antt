@@ -69,12 +69,12 @@ use Rattle.world_rounds.specs.Worlds.{IsJournal, fixed_in, setup_of, start_for, 
 use Rattle.world_rounds.specs.declared.types.Round.{Round}
 use Rattle.world_rounds.specs.declared.types.Setting.{Setting}
 use Rattle.world_rounds.proofs.Completing.{completes_once}
-use Rattle.world_rounds.proofs.Replaying.{replay_premises}
+use Rattle.world_rounds.proofs.Replaying.{all_framed, is_alone, of_fed, replay_premises}
 use Rattle.world_rounds.proofs.Rounding.{start_reads}
 use Rattle.world_laws.specs.declared.outcome.ReplayOutcome.{ReplayOutcome}
 use Rattle.world_laws.specs.declared.outcome.ReplayOutcome.TheVariants as outcome
 use Rattle.world_laws.specs.Replays.{AttemptShows, HasRoom, StepsMade, StepsShow}
-use Rattle.world_laws.proofs.FedAlone.{all_framed, alone_honest, is_alone, of_fed}
+use Rattle.world_laws.proofs.FedAlone.{alone_honest}
 use Rattle.world_laws.proofs.GoingOn.{GoesOn, HasGoneOn, asks_go, left_before, moved_here, some_left}
 use Rattle.world_laws.proofs.Parting.{shows_replaying}
 use Rattle.world_laws.proofs.Weighing.{twice}

@@ -33,10 +33,10 @@ use Rattle.world_laws.specs.Limits.{EndsWithin, StepsAnswered}
 use Rattle.world_laws.proofs.Running.{FollowsBy, RunOf, StepFollows, step_follows}
 
 -- an answer came, and the attempt still runs
-record StepsOn (old new : Record) : Type 0 where
-  answer : Answer
-  answers : new.answers ≡ old.answers ++ answer ∷ []
-  running : IsRunning new
+pub record StepsOn (old new : Record) : Type 0 where
+  pub answer : Answer
+  pub answers : new.answers ≡ old.answers ++ answer ∷ []
+  pub running : IsRunning new
 
 some_behind : (xs : List Answer) (a : Answer) → xs ++ a ∷ [] ≢ []
 some_behind [] a e = absurd (cc)
@@ -64,7 +64,7 @@ module _ (fixed : Fixed) (old new : Record) (is : IsRunning old) (k : RunOf fixe
   replied_steps (Ok reply.Ended) e now f = absurd (cc)
   replied_steps (Err why) e now f = absurd (cc)
 
-step_on : (fixed : Fixed) (old new : Record) → IsKeptUnder fixed old → Premises fixed (heard fixed.version old) → IsRunning old → StepDoes fixed.handler old (Ok progress.Stepped) new → StepsOn old new
+pub step_on : (fixed : Fixed) (old new : Record) → IsKeptUnder fixed old → Premises fixed (heard fixed.version old) → IsRunning old → StepDoes fixed.handler old (Ok progress.Stepped) new → StepsOn old new
 step_on fixed old new u p is does =
     ⊎_elim
     (λ (x : LacksMemory old (Ok progress.Stepped) new). let e = x.0 in absurd (cc))
@@ -74,16 +74,16 @@ step_on fixed old new u p is does =
 -- ---- several steps
 
 -- what lasts over answered steps, and how many answers there are
-record Lasts (fixed : Fixed) (n : ℕ) (old new : Record) : Type 0 where
-  kept : IsKeptUnder fixed new
-  fed : heard fixed.version new ≡ heard fixed.version old
-  running : IsRunning new
-  count : length new.answers ≡ length old.answers + n
+pub record Lasts (fixed : Fixed) (n : ℕ) (old new : Record) : Type 0 where
+  pub kept : IsKeptUnder fixed new
+  pub fed : heard fixed.version new ≡ heard fixed.version old
+  pub running : IsRunning new
+  pub count : length new.answers ≡ length old.answers + n
 
-one_longer : (old new : Record) → StepsOn old new → length new.answers ≡ length old.answers + 1
+pub one_longer : (old new : Record) → StepsOn old new → length new.answers ≡ length old.answers + 1
 one_longer old new x = ap length x.answers ∙ length-append old.answers (x.answer ∷ [])
 
-steps_last : (fixed : Fixed) (n : ℕ) (old new : Record) → IsKeptUnder fixed old → Premises fixed (heard fixed.version old) → IsRunning old → StepsAnswered fixed.handler n old new → Lasts fixed n old new
+pub steps_last : (fixed : Fixed) (n : ℕ) (old new : Record) → IsKeptUnder fixed old → Premises fixed (heard fixed.version old) → IsRunning old → StepsAnswered fixed.handler n old new → Lasts fixed n old new
 steps_last fixed zero old new u p is same = subst (Lasts fixed 0 old) (sym same) (record { kept = u; fed = refl; running = is; count = omega arith })
 steps_last fixed (suc n) old new u p is (mid, does, more) =
     let x = step_on fixed old mid u p is does in

@@ -9,4 +9,4 @@ pub mod Reports
 pub mod PlayedRounds
 pub mod Reported
 pub mod Unfinished
-pub mod Failures
+pub mod Unmade

@@ -6,8 +6,7 @@ ghost use Rattle.invocation_vm.specs.Making.{made};
 ghost use Rattle.vm_model.specs.Fixed.{Fixed};
 ghost use Rattle.vm_attempt.specs.Record.{Record};
 ghost use Rattle.vm_attempt.specs.Stepping.{fresh_record};
-ghost use Rattle.vm_attempt.specs.Courses.{Leads};
-ghost use Rattle.world_laws.specs.Failures.{FailedByCall};
+ghost use Rattle.vm_attempt.specs.Courses.{FailedByCall, Leads};
 
 /// Each error of an attempt's VM came by one of the attempt's own calls: a piece that was fed, the end of its input, a step of its handler
 /// or the result of a run. The VM had no error before that call, which left this one, by what such a call does.

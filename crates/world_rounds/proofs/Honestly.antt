@@ -65,7 +65,7 @@ begins : (bytes unfed : List ℕ) (raws : List RawMessage) → AreFrames (bytes 
 begins bytes unfed raws is = begins_by (frames_of bytes).0 (frames_of bytes).1 unfed raws (sym (frames_of-append bytes unfed) ∙ is)
 
 -- the frames of a journal are those of entries
-entry_frames : (journal : List (List ℕ)) → AreEntries journal → AllByRecursion IsEntryFrame (journal_frames journal)
+pub entry_frames : (journal : List (List ℕ)) → AreEntries journal → AllByRecursion IsEntryFrame (journal_frames journal)
 entry_frames [] all = tt
 entry_frames (x ∷ xs) all = by_frame (frame_in x) all.0 (entry_frames xs all.1)
   where
@@ -82,7 +82,7 @@ named_more id (c ∷ cs) more h = by_test (names_invocation id (message_in c.ty 
     by_test true e ih = refl
     by_test false e ih = ih e
 
-named_behind : (id : ℕ) (c : RawMessage) (cs : List RawMessage) → is_for_invocation id cs ≡ true → is_for_invocation id (c ∷ cs) ≡ true
+pub named_behind : (id : ℕ) (c : RawMessage) (cs : List RawMessage) → is_for_invocation id cs ≡ true → is_for_invocation id (c ∷ cs) ≡ true
 named_behind id c cs h = by_test (names_invocation id (message_in c.ty c.body)) h
   where
     by_test : (b : Bool) → is_for_invocation id cs ≡ true → (b || is_for_invocation id cs) ≡ true
@@ -92,7 +92,7 @@ named_behind id c cs h = by_test (names_invocation id (message_in c.ty c.body)) 
 not_none : (n : ℕ) → (suc n == 0) ≡ false
 not_none n = grind (arith, nat_tests)
 
-some_known : (n : ℕ) (xs : List RawMessage) (c : RawMessage) (cs : List RawMessage) → n ≡ length xs → commands_among xs ≡ c ∷ cs → (n == 0) ≡ false
+pub some_known : (n : ℕ) (xs : List RawMessage) (c : RawMessage) (cs : List RawMessage) → n ≡ length xs → commands_among xs ≡ c ∷ cs → (n == 0) ≡ false
 some_known n [] c cs is h = absurd (cc)
 some_known n (x ∷ xs) c cs is h = ap (λ k. k == 0) is ∙ not_none (length xs)
 

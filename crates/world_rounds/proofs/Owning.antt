@@ -18,17 +18,19 @@ use Rattle.vm_model.specs.Histories.{History, Honest}
 use Rattle.journal_entries.specs.Journal.{stored_form}
 use Rattle.vm_model.specs.SoundHistories.{SoundHistory}
 use Rattle.vm_state.specs.declared.state_map.StateMap.{StateMap}
-use Rattle.vm_attempt.specs.Blames.{Blame, IfError, IsBlamed, IsLate, IsOwnError}
+use Rattle.vm_attempt.specs.Attempts.{HasCause, IsItsOwn}
+use Rattle.vm_attempt.specs.Blames.{IfError, IsBlamed, IsLate}
+use Rattle.vm_attempt.specs.Courses.{IsLed}
 use Rattle.vm_attempt.specs.Journals.{setup_for}
 use Rattle.vm_attempt.proofs.Advanced.{made_new}
 use Rattle.vm_attempt.proofs.Blamed.{close_blames, feed_blames, made_blamed, take_blames}
+use Rattle.vm_attempt.proofs.Caused.{cause_is_own, close_led, feed_led, finish_caused, finish_led, made_led, step_caused, step_led, take_led}
 use Rattle.vm_attempt.proofs.Coming.{made_comes}
 use Rattle.vm_attempt.proofs.Erring.{step_blames}
-use Rattle.vm_attempt.proofs.Finishing.{finish_blame, finish_blames, finish_late}
-use Rattle.vm_attempt.proofs.Late.{close_late, feed_late, step_blame, step_late, take_late}
-use Rattle.vm_attempt.proofs.Replayed.{honest_fails}
+use Rattle.vm_attempt.proofs.Finishing.{finish_blames, finish_late}
+use Rattle.vm_attempt.proofs.Late.{close_late, feed_late, step_late, take_late}
 use Rattle.vm_attempt.specs.declared.progress.Progress.{Progress}
-use Rattle.vm_attempt.specs.Record.{Record, all_heard, all_said}
+use Rattle.vm_attempt.specs.Record.{Record}
 use Rattle.vm_attempt.specs.Stepping.{StepDoes, fresh_record}
 use Rattle.world_rounds.specs.declared.types.Event.{Event}
 use Rattle.world_rounds.specs.declared.types.Event.TheVariants as event
@@ -83,32 +85,55 @@ module _ (m : Meaning) (w : Setting) (begin_bytes : List ℕ) (raw : RawMessage)
     goes : Goes m w begin_bytes raw st old j framed found known s same_setup base past r now
     blamed : IsBlamed (fixed_in m w) now.attempt
     late : IsLate (fixed_in m w) now.attempt
+    led : IsLed (fixed_in m w) now.attempt
 
   -- the attempt's record has this error as its own
   abbrev Owns : Now → Error → Type 0
-  Owns now e = IsOwnError (fixed_in m w) (all_heard w.version now.attempt) (all_said now.attempt) now.attempt.answers e
+  Owns now e = IsItsOwn (fixed_in m w) now.attempt e
 
   by_memory : (result : Result Unit AllocError) (now : Now) (e : Error) → memory_of result ≡ Some e → Owns now e
   by_memory (Ok t) now e h = absurd (cc)
-  by_memory (Err x) now e h = inl (let z : e ≡ no_memory = cc in z)
+  by_memory (Err x) now e h = let z : e ≡ no_memory = cc in (inl z, inl z)
 
-  by_step : (result : Result Progress Error) (now : Now) (e : Error) → Stands now → IfError result (λ x. Blame (fixed_in m w) (all_heard w.version now.attempt) (all_said now.attempt) now.attempt.answers x) → error_of result ≡ Some e → Owns now e
+  by_step : (result : Result Progress Error) (now : Now) (e : Error) → Stands now → IfError result (HasCause (fixed_in m w) now.attempt) → error_of result ≡ Some e → Owns now e
   by_step (Ok p) now e x b h = absurd (cc)
   by_step (Err f) now e x b h =
-      honest_fails (fixed_in m w) (all_heard w.version now.attempt) (all_said now.attempt) now.attempt.answers e
+      cause_is_own (fixed_in m w) now.attempt e
       (honest_now m w begin_bytes raw st old j framed found known s same_setup base past r is_start texts now x.going x.goes.0)
-      (subst (Blame (fixed_in m w) (all_heard w.version now.attempt) (all_said now.attempt) now.attempt.answers) (let z : f ≡ e = cc in z) b)
+      (subst (HasCause (fixed_in m w) now.attempt) (let z : f ≡ e = cc in z) b)
 
-  by_result : (result : Result Unit Error) (now : Now) (e : Error) → Stands now → IfErr result (λ x. Blame (fixed_in m w) (all_heard w.version now.attempt) (all_said now.attempt) now.attempt.answers x) → error_of result ≡ Some e → Owns now e
+  by_result : (result : Result Unit Error) (now : Now) (e : Error) → Stands now → IfErr result (HasCause (fixed_in m w) now.attempt) → error_of result ≡ Some e → Owns now e
   by_result (Ok t) now e x b h = absurd (cc)
   by_result (Err f) now e x b h =
-      honest_fails (fixed_in m w) (all_heard w.version now.attempt) (all_said now.attempt) now.attempt.answers e
+      cause_is_own (fixed_in m w) now.attempt e
       (honest_now m w begin_bytes raw st old j framed found known s same_setup base past r is_start texts now x.going x.goes.0)
-      (subst (Blame (fixed_in m w) (all_heard w.version now.attempt) (all_said now.attempt) now.attempt.answers) (let z : f ≡ e = cc in z) b)
+      (subst (HasCause (fixed_in m w) now.attempt) (let z : f ≡ e = cc in z) b)
 
   -- what an event keeps, and that an error that comes by it is the attempt's own
   abbrev Goes_on : Now → Now → Type 0
   Goes_on now mid = Stands mid × ((e : Error) → mid.error ≡ Some e → (now.error ≡ Some e) ⊎ Owns mid e)
+
+  -- ---- the calls of the attempt
+
+  step_led_on : (now mid : Now) → StepHappens m now mid → IsLed (fixed_in m w) now.attempt → IsLed (fixed_in m w) mid.attempt
+  step_led_on now mid (result, a, d, is) led = subst (λ (z : Now). IsLed (fixed_in m w) z.attempt) (sym is) (step_led (fixed_in m w) now.attempt result a d led)
+
+  steps_led : (n : ℕ) (now mid : Now) → StepsHappen m n now mid → IsLed (fixed_in m w) now.attempt → IsLed (fixed_in m w) mid.attempt
+  steps_led zero now mid is led = subst (λ (z : Now). IsLed (fixed_in m w) z.attempt) (sym is) led
+  steps_led (suc n) now mid (next, first, more) led = steps_led n next mid more (step_led_on now next first led)
+
+  pieces_led : (n : ℕ) (closed : Bool) (now mid : Now) → Pieces closed n now mid → IsLed (fixed_in m w) now.attempt → IsLed (fixed_in m w) mid.attempt
+  pieces_led n true now mid is led = subst (λ (z : Now). IsLed (fixed_in m w) z.attempt) (sym is) led
+  pieces_led n false now mid (result, a, d, is) led = subst (λ (z : Now). IsLed (fixed_in m w) z.attempt) (sym is) (feed_led (fixed_in m w) (take n now.waiting) now.attempt result a d led)
+
+  event_led : (e : Event) (now mid : Now) → Happens m e now mid → IsLed (fixed_in m w) now.attempt → IsLed (fixed_in m w) mid.attempt
+  event_led (event.Piece n) now mid d led = pieces_led n now.closed now mid d led
+  event_led event.Close now mid (result, a, d, is) led = subst (λ (z : Now). IsLed (fixed_in m w) z.attempt) (sym is) (close_led (fixed_in m w) now.attempt result a d led)
+  event_led event.Step now mid d led = step_led_on now mid d led
+  event_led (event.Steps n) now mid d led = steps_led n now mid d led
+  event_led (event.RunResult handle exit policy) now mid (result, a, d, is) led = subst (λ (z : Now). IsLed (fixed_in m w) z.attempt) (sym is) (finish_led (fixed_in m w) handle exit policy now.attempt result a d led)
+  event_led (event.Arrive y) now mid (none, is) led = subst (λ (z : Now). IsLed (fixed_in m w) z.attempt) (sym is) led
+  event_led (event.Store n) now mid (journal, waiting, unstored, stores, is, whole, proposed) led = subst (λ (z : Now). IsLed (fixed_in m w) z.attempt) (sym is) (take_led (fixed_in m w) now.attempt (Ok (concat now.attempt.vm.machine.output)) _ (refl, refl, whole) led)
 
   stands_by : (e : Event) (now mid : Now) → Happens m e now mid → Stands now → IsBlamed (fixed_in m w) mid.attempt → IsLate (fixed_in m w) mid.attempt → Stands mid
   stands_by e now mid d x b l = record {
@@ -116,6 +141,7 @@ module _ (m : Meaning) (w : Setting) (begin_bytes : List ℕ) (raw : RawMessage)
     goes = event_runs m w begin_bytes raw st old j framed found known s same_setup base past r e now mid d x.going x.goes;
     blamed = b;
     late = l;
+    led = event_led e now mid d x.led;
   }
 
   same_error : (now mid : Now) → mid.error ≡ now.error → (e : Error) → mid.error ≡ Some e → (now.error ≡ Some e) ⊎ Owns mid e
@@ -141,8 +167,9 @@ module _ (m : Meaning) (w : Setting) (begin_bytes : List ℕ) (raw : RawMessage)
   -- an error that comes by a step
   step_owns : (now mid : Now) (result : Result Progress Error) (a : Record) → StepDoes m now.attempt result a → mid ≡ record now { attempt = a; error = first_error now.error (error_of result) } → Stands now → (e : Error) → error_of result ≡ Some e → Owns mid e
   step_owns now mid result a d is x e h =
-      let blame = subst (λ (z : Now). IfError result (λ e. Blame (fixed_in m w) (all_heard w.version z.attempt) (all_said z.attempt) z.attempt.answers e)) (sym is) (step_blame (fixed_in m w) now.attempt result a x.goes.1 (λ _. x.goes.0) x.blamed x.late d) in
-      by_step result mid e (step_stands now mid (result, a, d, is) x) blame h
+      let led = step_led (fixed_in m w) now.attempt result a d x.led in
+      let cause = subst (λ (z : Now). IfError result (HasCause (fixed_in m w) z.attempt)) (sym is) (step_caused (fixed_in m w) now.attempt result a x.goes.1 (λ _. x.goes.0) x.blamed x.late led d) in
+      by_step result mid e (step_stands now mid (result, a, d, is) x) cause h
 
   -- after steps an error is the one that was there, or the attempt's own, which has made its last step
   abbrev EndsOwning : Now → Now → Error → Type 0
@@ -165,7 +192,7 @@ module _ (m : Meaning) (w : Setting) (begin_bytes : List ℕ) (raw : RawMessage)
       before e h = ⊎_elim
           (λ (y : first.error ≡ Some e). inl y)
           (λ (y : Owns now e × ((result : Result Progress Error) (b : Record) → StepDoes m now.attempt result b → b ≡ now.attempt)).
-          inr (subst (λ (b : Record). IsOwnError (fixed_in m w) (all_heard w.version b) (all_said b) b.answers e × ((result : Result Progress Error) (c : Record) → StepDoes m b result c → c ≡ b)) (sym (is_a ∙ y.1 result a d)) y))
+          inr (subst (λ (b : Record). IsItsOwn (fixed_in m w) b e × ((result : Result Progress Error) (c : Record) → StepDoes m b result c → c ≡ b)) (sym (is_a ∙ y.1 result a d)) y))
           (owns e h)
 
       comes : (e : Error) → (now.error ≡ None) × (error_of result ≡ Some e) → EndsOwning first mid e
@@ -197,9 +224,10 @@ module _ (m : Meaning) (w : Setting) (begin_bytes : List ℕ) (raw : RawMessage)
       let on = stands_by (event.RunResult handle exit policy) now mid (result, a, d, is) x
       (subst (λ (z : Now). IsBlamed (fixed_in m w) z.attempt) (sym is) b)
       (subst (λ (z : Now). IsLate (fixed_in m w) z.attempt) (sym is) l) in
-      let blame = subst (λ (z : Now). IfErr result (λ e. Blame (fixed_in m w) (all_heard w.version z.attempt) (all_said z.attempt) z.attempt.answers e)) (sym is) (finish_blame (fixed_in m w) handle exit policy now.attempt result a d b l) in (
+      let led = finish_led (fixed_in m w) handle exit policy now.attempt result a d x.led in
+      let cause = subst (λ (z : Now). IfErr result (HasCause (fixed_in m w) z.attempt)) (sym is) (finish_caused (fixed_in m w) handle exit policy now.attempt result a d b l led) in (
         on,
-        λ e h. ⊎_elim (λ (y : now.error ≡ Some e). inl y) (λ (y : (now.error ≡ None) × (error_of result ≡ Some e)). inr (by_result result mid e on blame y.1)) (error_by now.error (error_of result) mid.error e (ap (λ (z : Now). z.error) is) h),
+        λ e h. ⊎_elim (λ (y : now.error ≡ Some e). inl y) (λ (y : (now.error ≡ None) × (error_of result ≡ Some e)). inr (by_result result mid e on cause y.1)) (error_by now.error (error_of result) mid.error e (ap (λ (z : Now). z.error) is) h),
       )
   event_goes (event.Arrive y) now mid (none, is) x = (
     stands_by (event.Arrive y) now mid (none, is) x
@@ -245,6 +273,7 @@ attempt_owns m w round old report new r j past d e is =
       goes = (inl (made_new d.alloc (fixed_in m w)), made_comes d.alloc (fixed_in m w));
       blamed = made_blamed (fixed_in m w) d.alloc;
       late = refl;
+      led = made_led (fixed_in m w) d.alloc;
     } in
     ⊎_elim
     (λ (x : first.error ≡ Some e). absurd (let z : None ≡ Some e = x in cc))

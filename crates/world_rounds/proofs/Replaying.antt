@@ -38,16 +38,18 @@ module _ (m : Meaning) (w : Setting) (round : Round) (old : List (List ℕ)) (fe
   abbrev raw : RawMessage
   raw = stored_form (message.Start st)
 
-  -- what was fed is the world's journal, and nothing more
-  record IsAlone (J : Journal fed) : Type 0 where
-    start : J.start ≡ st
-    entries : J.entries ≡ journal_frames old
-    others : J.others ≡ []
+  pub all_framed : AreFrames (bytes_fed fed) (raw ∷ journal_frames old)
+  all_framed = ap frames_of bytes ∙ join (encoding (message.Start st)) (concat old) (raw ∷ []) (journal_frames old) (start_framed st whole) (journal_framed old j.entries)
 
-  is_alone : (J : Journal fed) → IsAlone J
+  -- what was fed is the world's journal, and nothing more
+  pub record IsAlone (J : Journal fed) : Type 0 where
+    pub start : J.start ≡ st
+    pub entries : J.entries ≡ journal_frames old
+    pub others : J.others ≡ []
+
+  pub is_alone : (J : Journal fed) → IsAlone J
   is_alone J =
-      let framed : AreFrames (encoding (message.Start st) ++ concat old) (raw ∷ journal_frames old) = join (encoding (message.Start st)) (concat old) (raw ∷ []) (journal_frames old) (start_framed st whole) (journal_framed old j.entries) in
-      let same : raw ∷ journal_frames old ≡ J.first_frame ∷ (J.entries ++ J.others) = ap (λ (p : List RawMessage × Tail). p.0) (sym framed) ∙ ap (λ b. (frames_of b).0) (sym bytes) ∙ J.frames in
+      let same : raw ∷ journal_frames old ≡ J.first_frame ∷ (J.entries ++ J.others) = ap (λ (p : List RawMessage × Tail). p.0) (sym all_framed) ∙ J.frames in
       let head : raw ≡ J.first_frame = head_same raw J.first_frame (journal_frames old) (J.entries ++ J.others) same in
       let tail : journal_frames old ≡ J.entries ++ J.others = tail_same raw J.first_frame (journal_frames old) (J.entries ++ J.others) same in
       let is_st : J.start ≡ st = same_Some J.start st (sym J.reads_start ∙ ap (λ (x : RawMessage). start_in x.body) (sym head) ∙ start_reads st whole) in
@@ -56,7 +58,7 @@ module _ (m : Meaning) (w : Setting) (round : Round) (old : List (List ℕ)) (fe
       record { start = is_st; entries = sym both.0; others = sym both.1 }
 
   -- what is so of the world's journal is so of what was fed
-  of_fed : (T : Setup → List RawMessage → Type 0) (J : Journal fed) → T (setup_of w) (journal_frames old) → T (setup_for (fixed_in m w) J.start) J.entries
+  pub of_fed : (T : Setup → List RawMessage → Type 0) (J : Journal fed) → T (setup_of w) (journal_frames old) → T (setup_for (fixed_in m w) J.start) J.entries
   of_fed T J t = let x = is_alone J in subst (λ (z : Start × List RawMessage). T (setup_for (fixed_in m w) z.0) z.1) (λ i. (sym x.start i, sym x.entries i)) t
 
   -- and the other way round

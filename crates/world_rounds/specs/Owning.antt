@@ -5,8 +5,7 @@ use Rattle.std.proofs.Common.{inl, inr}
 use Rattle.journal_protocol.specs.Error.{Error}
 use Rattle.invocation_vm.specs.Making.{supported}
 use Rattle.vm_model.specs.Calls.{Meaning}
-use Rattle.vm_attempt.specs.Record.{all_heard, all_said}
-use Rattle.vm_attempt.specs.Blames.{IsOwnError}
+use Rattle.vm_attempt.specs.Attempts.{IsItsOwn}
 use Rattle.world_rounds.specs.declared.types.Event.{Event}
 use Rattle.world_rounds.specs.declared.types.Round.{Round}
 use Rattle.world_rounds.specs.declared.types.Setting.{Setting}
@@ -15,14 +14,13 @@ use Rattle.world_rounds.specs.Rounds.{Happen, IsRefusal, Now, ReportView, RoundD
 
 -- On this course of a round's events: the event that brought the round's error brought this one,
 -- and right after it the error is the attempt's own: out of memory, input that was closed too
--- early, a call's own refusal after the recorded commands, or that of a run's result.
+-- early, a call's own refusal after the recorded commands, or what the VM returned for a run's
+-- result that was reported. It is out of memory, or one of the attempt's calls brought it.
 abbrev pub BringsOwn : (m : Meaning) (w : Setting) (events : List Event) (begun end : Now)
     → Happen m events begun end → Error → Type 0
 BringsOwn m w [] begun end h e = ⊥
 BringsOwn m w (v ∷ es) begun end (mid, happens, others) e =
-    ((begun.error ≡ None) × (mid.error ≡ Some e)
-    × IsOwnError (fixed_in m w) (all_heard w.version mid.attempt) (all_said mid.attempt)
-    mid.attempt.answers e)
+    ((begun.error ≡ None) × (mid.error ≡ Some e) × IsItsOwn (fixed_in m w) mid.attempt e)
     ⊎ BringsOwn m w es mid end others e
 
 -- The error of a round, if it has one, is its attempt's own; or, if no attempt was made, why.

@@ -12,6 +12,7 @@ from __future__ import annotations
 
 import contextlib
 import functools
+import itertools
 import logging
 import multiprocessing
 import multiprocessing.connection
@@ -26,7 +27,7 @@ import sys
 import tempfile
 import time
 import traceback
-from collections.abc import Callable, Iterable, Iterator
+from collections.abc import Callable, Iterable, Iterator, Sequence
 from dataclasses import dataclass, field
 from typing import Any
 
@@ -227,34 +228,57 @@ def death_at_commit(room: Room, number: int, *, again: int = 0, idle: float = 0.
 
 def deaths_at_commits(room: Room, numbers: Iterable[int], **options: Any) -> Report:
     """Deaths at these commits, side by side, as long as there are such commits."""
+    return _until_none_dies(functools.partial(death_at_commit, room, number, **options) for number in numbers)
+
+
+def _until_none_dies(deaths: Iterable[Callable[[], Report]]) -> Report:
+    """All that came of these, side by side, up to the first one at whose commit nothing died."""
     report = Report()
-    for one in side_by_side(functools.partial(death_at_commit, room, number, **options) for number in numbers):
-        if not one.deaths:
-            break
-        report += one
+    with contextlib.closing(side_by_side(deaths)) as reports:
+        for one in reports:
+            if not one.deaths:
+                break
+            report += one
     return report
 
 
-def deaths_on_a_server(url: str, folder: pathlib.Path, numbers: Iterable[int], reference: Found) -> Report:
-    """The same on PostgreSQL, one after the other, as long as there are such commits."""
-    report = Report()
-    for number in numbers:
-        place = folder / f"death-{number}"
-        place.mkdir(parents=True)
-        (place / "effects").touch()
-        emptied(url)
+def deaths_on_a_server(url: str, folder: pathlib.Path, numbers: Sequence[int], reference: Found) -> Report:
+    """The same on PostgreSQL, where each of those that are side by side has a database of its own."""
+    with _databases(url, min(len(numbers), os.cpu_count() or 1)) as urls:
+        own = itertools.cycle(urls)
+        return _until_none_dies(functools.partial(death_on_a_server, next(own), folder, number, reference) for number in numbers)
+
+
+@contextlib.contextmanager
+def _databases(url: str, count: int) -> Iterator[list[str]]:
+    """New databases of a server, while the context lasts."""
+    names = [f"deaths_{os.getpid()}_{at}" for at in range(count)]
+    with Plain(url) as db:
+        for it in names:
+            db.change(f"CREATE DATABASE {it}")
+    try:
+        yield [f"{url}{'&' if '?' in url else '?'}dbname={it}" for it in names]
+    finally:
         with Plain(url) as db:
-            submit(db, 0, COUNT)
-        first = _served(url, place, dies=number)
-        if first not in (0, faulty.DIED):
-            raise Wrong(f"the worker that was to die at commit {number} ended with {first}: {_log(place / 'worker')}")
-        if not first:
-            break
-        if second := _served(url, place):
-            raise Wrong(f"the worker after a death at commit {number} ended with {second}: {_log(place / 'worker')}")
-        with Plain(url) as db:
-            report += Report.of(check(db, COUNT, place / "effects", reference), deaths=1)
-    return report
+            for it in names:
+                db.change(f"DROP DATABASE {it} WITH (FORCE)")
+
+
+def death_on_a_server(url: str, folder: pathlib.Path, number: int, reference: Found) -> Report:
+    """The worker dies in place of commit `number`, and another one does the rest. If it didn't die, there is no such commit."""
+    place = folder / f"death-{number}"
+    place.mkdir(parents=True)
+    (place / "effects").touch()
+    emptied(url)
+    with Plain(url) as db:
+        submit(db, 0, COUNT)
+    first = _served(url, place, dies=number)
+    if first not in (0, faulty.DIED):
+        raise Wrong(f"the worker that was to die at commit {number} ended with {first}: {_log(place / 'worker')}")
+    if first and (second := _served(url, place)):
+        raise Wrong(f"the worker after a death at commit {number} ended with {second}: {_log(place / 'worker')}")
+    with Plain(url) as db:
+        return Report.of(check(db, COUNT, place / "effects", reference), deaths=int(first == faulty.DIED))
 
 
 def _served(url: str, place: pathlib.Path, **options: Any) -> int:

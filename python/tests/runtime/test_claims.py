@@ -2,6 +2,7 @@
 
 import asyncio
 import os
+import re
 import secrets
 import threading
 import time
@@ -10,6 +11,7 @@ from unittest import mock
 
 import support  # isort: skip
 import runtime_app
+from palqytun import frames
 from palqytun.runtime import App, Context, Queue, Retry, Service, TerminalError, VirtualObject, Workflow, acts, deadlines, gather, inbox, invocations
 from palqytun.runtime import claiming, journal, operate, watchdog
 from palqytun.runtime.claiming import Claimer
@@ -89,6 +91,13 @@ async def by_itself(ctx: Context, _: int) -> None:
 fails = App(failing)
 
 
+def protocol_of_others():
+    """The statements of a worker in another language, which wants PostgreSQL's driver."""
+    import third
+
+    return third.statements()
+
+
 class OnOne(support.OnADatabase):
     LEASE = 10 * support.LONG
 
@@ -107,6 +116,9 @@ class OnOne(support.OnADatabase):
 
     def claim(self, worker="one", most=500):
         return self.db.done(lambda db: Claimer(worker, app, self.LEASE).claim(db, (), most)).claims
+
+    def claimed(self, worker="one", most=500):
+        return [it.invocation for it in self.claim(worker, most)]
 
     def enter(self, worker):
         self.db.done(Claimer(worker, app, self.LEASE).enter)
@@ -237,6 +249,46 @@ class Lost(OnOne):
                 self.assertEqual(await runtime.rows("SELECT deaths FROM invocations"), [(0,)])
 
         asyncio.run(go())
+
+    def test_they_come_by_their_age(self):
+        """What a dead worker had goes on before what was due later, and after what was due before, however many there are."""
+        before, had, after = ([self.create("Claims", "echoes", argument=b"1") for _ in range(3)] for _ in range(3))
+
+        def due(seconds, ids):
+            for id in ids:
+                self.db.change("UPDATE invocations SET due=created+? WHERE id=?", (seconds, id))
+
+        due(1000, [*before, *after])
+        self.assertEqual([it.invocation for it in self.lost("one")], had)
+        for seconds, ids in ((-60, before), (-40, had), (-20, after)):
+            due(seconds, ids)
+        self.enter("two")
+        self.assertEqual([self.claimed("two", 2) for _ in range(5)], [before[:2], [before[2], had[0]], had[1:], after[:2], after[2:]])
+
+
+@support.on_each_database
+class Woken(OnOne):
+    """Suspended invocations for which something came."""
+
+    def suspended(self, number):
+        """One that waits for signal 17, and gets the one of this number."""
+        id = self.create("Claims", "echoes", argument=b"1")
+        suspension = frames.frame_of("Suspension future=(kind=FirstCompleted signals=[17])")
+        self.db.change("UPDATE invocations SET status='suspended', suspension=?, epoch=1 WHERE id=?", (suspension, id))
+        self.db.done(lambda db: inbox.deliver(db, Outcome(), id, journal.signal(number, journal.void())))
+        return id
+
+    def test_those_that_stay_hide_none(self):
+        """A claim that has read as many as it might, of which some stay as they are, says that there may be more, and the next one finds them. One that
+        finds nothing doesn't say so."""
+        self.enter("one")
+        stay, wake = [self.suspended(18) for _ in range(7)], [self.suspended(17) for _ in range(2)]
+        claimed, looks = [], 0
+        while (found := self.db.done(lambda db: Claimer("one", app, self.LEASE).claim(db, (), 3))).has_more:
+            claimed, looks = claimed + [it.invocation for it in found.claims], looks + 1
+            self.assertLess(looks, 10)
+        self.assertEqual({*claimed, *(it.invocation for it in found.claims)}, {*wake})
+        self.assertEqual(self.db.rows("SELECT COUNT(*) FROM invocations WHERE status='suspended'"), [(len(stay),)])
 
 
 @support.on_each_database
@@ -401,10 +453,11 @@ class Plans(OnOne):
             "sqlite": "WITH RECURSIVE n(i) AS (SELECT 1 UNION ALL SELECT i+1 FROM n WHERE i<?) SELECT i FROM n",
             "postgres": "SELECT i FROM generate_series(1,?) AS i",
         }[self.kind]
-        columns = "service, handler, exclusive, version, seed, entries, created"
+        self.columns = "handler, exclusive, version, seed, entries, created"
+        self.numbered = f"FROM invocations, ({numbers}) AS many WHERE handler='echoes' AND status='ready'"
         self.db.change(
-            f"INSERT INTO invocations(id, key, status, due, ended, {columns}) SELECT 'ended_' || i, 'k', 'done', 1, 1, service, handler, exclusive, version,"
-            f" seed, entries, created FROM invocations, ({numbers}) AS many WHERE handler='echoes'",
+            f"INSERT INTO invocations(id, key, status, due, ended, service, {self.columns}) SELECT 'ended_' || i, 'k', 'done', 1, 1, service,"
+            f" {self.columns} {self.numbered}",
             (self.ENDED,),
         )
         if self.kind == "postgres":  # each test begins with an empty table, which the planner has to be told of
@@ -447,6 +500,15 @@ class Plans(OnOne):
         finally:
             self.db.rollback()
 
+    def pages(self, sql, values):
+        """How many pages a statement looks at, on a server."""
+        self.db.begin()
+        try:
+            [(found,)] = self.db.rows(f"EXPLAIN (ANALYZE, BUFFERS, FORMAT JSON) {sql}", values)
+            return found[0]["Plan"]["Shared Hit Blocks"] + found[0]["Plan"]["Shared Read Blocks"]
+        finally:
+            self.db.rollback()
+
     def is_a_scan(self, line):
         """Whether what has ended is read. By their service invocations are found only for a list of these."""
         if self.kind == "sqlite" and line.startswith(("SCAN it", "SCAN invocations", "SCAN first")) and " INDEX " not in line:
@@ -485,6 +547,27 @@ class Plans(OnOne):
         for sql, values in self.statements(*[lambda db, it=it: operate.invocations(db, it) for it in lists]):
             with self.subTest(sql):
                 self.assertEqual([line for line in self.plan(sql, values) if self.is_a_scan(line) and "invocations_of_service" not in line], [])
+
+    def test_what_waits_for_a_worker(self):
+        """Neither what is paused for other reasons nor what waits for other workers is looked at, however much it is; nor by a worker in another language."""
+        for how, service in (("paused", "Claims"), ("unserved", "Elsewhere")):
+            self.db.change(
+                f"INSERT INTO invocations(id, key, status, how, due, service, {self.columns}) SELECT '{how}_' || i, 'k', 'paused', '{how}', 1, '{service}',"
+                f" {self.columns} {self.numbered}",
+                (20_000,),
+            )
+        if self.kind == "postgres":
+            self.db.change("ANALYZE invocations")
+        statements = self.statements(Claimer("one", app, self.LEASE).serve)
+        self.assertTrue(statements)
+        if self.kind == "postgres":
+            statements.append((re.sub(r"%\(\w+\)s", "?", protocol_of_others()["unserved"][0]), ("Claims", ["echoes"], 100)))
+        for sql, values in statements:
+            with self.subTest(sql):
+                if self.kind == "sqlite":
+                    self.assertIn("SEARCH invocations USING INDEX invocations_unserved (service=? AND handler=?)", self.plan(sql, values))
+                else:
+                    self.assertLess(self.pages(sql, values), 60)
 
 
 if __name__ == "__main__":

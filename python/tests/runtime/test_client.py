@@ -4,10 +4,11 @@ import asyncio
 import contextlib
 import dataclasses
 import unittest
+from unittest import mock
 
 import support  # isort: skip
 
-from palqytun.runtime import App, Client, Context, Engine, Service, TerminalError, Unavailable, VirtualObject, Workflow
+from palqytun.runtime import App, BadName, Client, Context, Engine, Service, TerminalError, Unavailable, VirtualObject, Workflow
 from palqytun.runtime.database import connect
 from palqytun.runtime.database.sqlite import InUse
 
@@ -145,6 +146,34 @@ class Clients(support.OnADatabase):
             with self.assertRaises(TerminalError) as raised:
                 await client.invocation("inv_none").result()
             self.assertEqual(raised.exception.code, 404)
+
+        self.with_client(go)
+
+    def test_names_that_no_database_has(self):
+        """They are refused before anything is asked of the database, with what is allowed."""
+
+        async def go(client, way):
+            there = await client.call(order, Order(way))
+            for name, why in (
+                ("a\0b", "has the character NUL: a name has at most 1000 bytes in UTF-8, and no NUL"),
+                ("n" * 1001, "has 1001 bytes in UTF-8, and 1000 are allowed"),
+                ("\ud800", "has half of a surrogate pair, and so no UTF-8"),
+            ):
+                sent = client.invocation(name)
+                for what, call in {
+                    "the invocation's id": [sent.result, sent.cancel, lambda: sent.signal("go"), lambda: client._desk.act("kill", name, "me")],
+                    "the service's name": [lambda: client.send(f"{name}/order", 1)],
+                    "the handler's name": [lambda: client.send(f"Shop/{name}", 1)],
+                    "the key": [lambda: client.send(take, 1, key=name)],
+                    "the idempotency key": [lambda: client.send(order, Order(way), idempotency_key=name)],
+                    "the queue key": [lambda: client.send(order, Order(way), queue_key=name)],
+                }.items():
+                    for one in call:
+                        with self.subTest(what, name=name[:5], way=way), mock.patch.object(client._desk, "transact", None):
+                            with self.assertRaises(BadName) as raised:
+                                await one()
+                            self.assertEqual((raised.exception.code, raised.exception.message), (400, f"{what} {why}"))
+            self.assertEqual(await client.call(order, Order(way)), Order(way, there.count - 1))  # the connection is as before
 
         self.with_client(go)
 

@@ -139,7 +139,7 @@ class Third(Store):
             now = self.now()
             for invocation, completes, _ in self.made("timers", now=now):
                 self.deliver(invocation, completion(completes, _NOTHING))
-            found = self.made("ready", **self.own, now=now)
+            found = [row[:4] for row in self.made("ready", **self.own, now=now)]
             found += [row[:4] for row in self.made("suspended", **self.own) if self._wakes(row)]
             found += [row[:4] for row in self.made("orphaned", **self.own)]
             claimed = [self._claim(*row, now) for row in found]

@@ -53,6 +53,31 @@ class Tables(unittest.TestCase):
         )
 
 
+class Targets(unittest.TestCase):
+    """Ratios beside their targets."""
+
+    def row(self, case: Case, size: int, here: float, setting: Setting = ON) -> Row:
+        return Row(Point(case, size, setting), {"here": {"instructions": here}, "original": {"instructions": 1000}})
+
+    def test_targets(self) -> None:
+        sleeps, attempts = Case("sleeps", "", target=0.45), Case("attempts", "", target=0.6, apart=True)
+        rows = [self.row(sleeps, 5, 800), self.row(sleeps, 10_000, 650), self.row(sleeps, 10_000, 1, OFF)]
+        rows += [self.row(attempts, 5, 900), self.row(attempts, 10_000, 600), self.row(LONG, 5, 1)]
+        wanted = [
+            "| Case | 10,000 | too many | 5 | too many |",
+            "|---|---|---|---|---|",
+            "| `sleeps` | 0.65 of 0.45 | 200 | 0.80 of 0.80 | met |",
+            "| `attempts` | 0.60 of 0.60 | met |  |  |",
+        ]
+        self.assertEqual(tables.targets(rows).splitlines(), wanted)
+
+    def test_sizes(self) -> None:
+        short, calls = Case("megabytes_out", "", most=100, target=1.0, apart=True), Case("calls_10k", "", most=10_000, target=0.85)
+        self.assertEqual([short.target_at(it) for it in (5, 100)], [1.0, 1.0])
+        self.assertEqual([calls.target_at(it) for it in (5, 100, 10_000)], [0.8, None, 0.85])
+        self.assertIsNone(LONG.target_at(5))
+
+
 class Pages(unittest.TestCase):
     def test_a_page(self) -> None:
         first, last = tables.marks("heap")

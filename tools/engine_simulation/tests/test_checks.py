@@ -155,7 +155,11 @@ class Rules(unittest.TestCase):
     def test_what_can_be_stored_is(self) -> None:
         last = '  entry OneWayCall service_name="Greeter" handler_name="greet" idempotency_key="i" invocation_id_notification_idx=1 invoke_time=5000\n'
         ends = f'{last}  entry Output result=value("x")\n  waits id 1\n  live\n  result value("x")\n'
-        self.broken(ends, f"{last}  waits id 1\n  live\n", "could have", is_settled=True)
+        self.broken(ends, f"{last}  waits id 1\n  live\n", "invocation 2 is left behind", is_settled=True)
+        sleepless = REPORT.replace("  entry Sleep wake_up_time=3000 result_completion_id=3\n", "").replace("  waits clock 3 at 3000\n", "")
+        check(SCRIPT, sleepless)
+        with self.assertRaisesRegex(Bad, "could have"):
+            check(SCRIPT, sleepless, is_settled=True)
 
     def test_a_result_is_that_of_the_output_and_the_last_entry(self) -> None:
         ends = '  waits id 1\n  live\n  result value("x")\n'
@@ -241,6 +245,17 @@ class States(unittest.TestCase):
         for old, new in ((reads, none), (none, reads), ('value=["a"]', 'value=["a", "b"]')):
             with self.assertRaisesRegex(Bad, "has the commands"):
                 check(STATE_SCRIPT, STATE_REPORT.replace(old, new))
+
+
+class LeftBehind(unittest.TestCase):
+    def test_who_waits_for_nothing_has_ended(self) -> None:
+        """The second of a key may begin once the first has ended, and nothing is missing for it."""
+        begun = STATE_REPORT.index('invocation 1 "Key" "two" key="k"\n  entry Input\n')
+        others = STATE_REPORT.index('invocation 2 "Key"')
+        left = f'{STATE_REPORT[:begun]}invocation 1 "Key" "two" key="k"\n  entry Input\n{STATE_REPORT[others:]}'
+        check(STATE_SCRIPT, left)
+        with self.assertRaisesRegex(Bad, "invocation 1 is left behind"):
+            check(STATE_SCRIPT, left, is_settled=True)
 
 
 class Reading(unittest.TestCase):

@@ -4,6 +4,8 @@ import contextlib
 import datetime
 import io
 import os
+import subprocess
+import sys
 import tempfile
 import time
 import unittest
@@ -13,6 +15,8 @@ from unittest import mock
 
 from tools.gate import bodies, evidence, night, tree
 from tools.gate.bodies import Bodies, Tried
+from tools.gate.environment import TOP
+from tools.gate.parts import programs
 from tools.gate.texts import sum_of_crates
 
 # Stands for rt, and is no script of Python: it refuses each edit except those whose name begins with `bad`, and notes for which crates it was run.
@@ -150,6 +154,18 @@ class Pages(unittest.TestCase):
         said = [it.of(night.of_part(it, options)) for it in parts]
         self.assertEqual(said, ["2 minutes, builds without a proof", "7 kills, builds without a proof"])
         self.assertIn("2", parts[0].job(night.of_part(parts[0], options)).words)
+
+    def test_hostile_input_is_for_the_programs_that_are_proved(self) -> None:
+        """./prove doesn't build the bench. A program that isn't there is named before the first case."""
+        options, [part] = night.arguments(["hostile"])
+        words = part.job(night.of_part(part, options)).words
+        named = {it.removeprefix("--program=").partition("=")[0] for it in words if it.startswith("--program=")}
+        self.assertEqual(named, {it for it in programs() if not tree.promises_nothing(it)})
+        self.assertNotIn("vmbench", named)
+        none = [f"--program={it}={TOP}/none/{it}" for it in named]
+        ran = subprocess.run([sys.executable, "tools/hostile", *none, "keys", "long-line"], cwd=TOP, capture_output=True, text=True)
+        said = f"no program {TOP}/none/vmscript: ./prove builds them, and --program names others\n"
+        self.assertEqual((ran.returncode, ran.stdout, ran.stderr), (2, "", said))
 
     def test_figures(self) -> None:
         self.assertEqual(night.line_before_counts("x\n3 cases\n3 passed, 0 failed\n"), "3 cases")

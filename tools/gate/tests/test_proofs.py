@@ -1,11 +1,13 @@
 """How far rt ci is, and how long it will take."""
 
 import json
+import os
+import subprocess
 import tempfile
 import unittest
 from pathlib import Path
 
-from tools.gate.proofs import Crate, Processors, Proofs, read_crates, read_times
+from tools.gate.proofs import BEHIND, Crate, Processors, Proofs, read_crates, read_times
 
 CRATES = {
     "low": Crate("low"),
@@ -93,6 +95,23 @@ class Files(unittest.TestCase):
         it = Processors()
         it.look()
         self.assertEqual(it.running, set())
+
+    def test_what_the_chain_does_not_wait_for_stays_behind(self) -> None:
+        words = ("sh", "-c", "echo here; read line", "--crate-name")
+        those = {name: subprocess.Popen([*words, name], stdin=subprocess.PIPE, stdout=subprocess.PIPE) for name in ("low", "side")}
+        it, ours = Processors(), os.getpriority(os.PRIO_PROCESS, 0)
+        for process in those.values():
+            self.enterContext(process)
+            assert process.stdout
+            process.stdout.readline()
+        it.look()
+        self.assertEqual(it.running, {"low", "side"})
+        it.put_behind({"low"})
+        found = {name: os.getpriority(os.PRIO_PROCESS, process.pid) for name, process in those.items()}
+        self.assertEqual(found, {"low": ours, "side": max(BEHIND, ours)})
+        for process in those.values():
+            process.communicate()
+        it.put_behind(set())  # neither is there any more
 
 
 if __name__ == "__main__":

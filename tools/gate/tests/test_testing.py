@@ -6,7 +6,7 @@ import contextlib
 import io
 import unittest
 
-from tools.gate.parts import PARTS, SECONDS, TAKEN, all_jobs
+from tools.gate.parts import BEHIND, FIRST, PARTS, SECONDS, TAKEN, all_jobs
 from tools.gate.testing import arguments, wanted
 
 
@@ -23,7 +23,7 @@ class Wanted(unittest.TestCase):
         self.assertLessEqual(SECONDS.keys(), known)
 
     def test_a_part_comes_with_what_it_needs(self) -> None:
-        self.assertEqual([it.name for it in wanted(["header"])], ["programs/lowered", "library", "header"])
+        self.assertEqual([it.name for it in wanted(["header"])], ["library", "header"])
 
     def test_shares_of_a_pass_take_tests_in_one_folder(self) -> None:
         """Each share is there, and they differ in nothing else. Those of another pass, or of another folder of tests, take theirs elsewhere (tools/runtime)."""
@@ -43,6 +43,15 @@ class Wanted(unittest.TestCase):
             with self.assertRaises(SystemExit), contextlib.redirect_stderr(io.StringIO()) as said:
                 arguments(["--nice", it])
             self.assertIn("--nice wants a number from 0 to 10", said.getvalue())
+
+    def test_nothing_is_before_what_most_jobs_wait_for(self) -> None:
+        """What needs nothing begins with the library and the programs, and has less of the cores."""
+        those = {it.name: it for it in all_jobs()}
+        self.assertLessEqual({*FIRST}, those.keys())
+        self.assertEqual({it.nice for it in those.values() if it.name in FIRST}, {0})
+        self.assertEqual({it.nice for it in those.values() if not (it.needs or it.after) and it.name not in FIRST}, {BEHIND})
+        for name in ("library", "programs"):
+            self.assertEqual(those[name].needs, ())
 
     def test_what_a_job_only_comes_after_is_left_out_with_its_part(self) -> None:
         alone = {it.name: it for it in wanted(["tutorial"])}

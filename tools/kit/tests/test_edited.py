@@ -13,8 +13,8 @@ from tools.kit.errors import Refused
 
 
 class Edits(unittest.TestCase):
-    def test_there_are_eleven_faults_and_what_chooses_one(self) -> None:
-        self.assertEqual([it.number for it in edited.edits()], list(range(12)))
+    def test_there_are_thirteen_faults_and_what_chooses_one(self) -> None:
+        self.assertEqual([it.number for it in edited.edits()], list(range(14)))
 
     def test_an_edit_that_fits_nowhere_is_refused(self) -> None:
         for name, old in (("a.rt", "two"), ("a.rt", "one"), ("b.rt", "one")):

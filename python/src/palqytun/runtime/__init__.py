@@ -11,6 +11,7 @@ from .desk import Unavailable
 from .durable import Durable, NotDurable, gather, select, wait_any
 from .engine import Engine
 from .heartbeats import GivenUp, heartbeat, last_progress
+from .names import BadName
 from .queues import Queue
 from .schedules import Schedule
 from .sealing import Sealed
@@ -20,6 +21,7 @@ from .transactions import Transaction
 
 __all__ = [
     "App",
+    "BadName",
     "Call",
     "Cancelled",
     "Client",

@@ -3,9 +3,11 @@
 from __future__ import annotations
 
 import functools
+import heapq
+import operator
 import time
 from collections.abc import AsyncIterator, Collection, Sequence
-from dataclasses import dataclass, field
+from dataclasses import dataclass, field, fields
 from typing import Any
 
 from . import acts, announced, deadlines, inbox, invocations, journal, queueing, schedules, unserved
@@ -23,6 +25,8 @@ _FRESH = 5000
 _AT_ONCE = 500  # leases that one statement takes
 _FEWEST = 20  # ready invocations that a claim may take, however many workers there are
 _SHARE = f"SELECT CASE WHEN many<2 OR ?<={_FEWEST} THEN ? WHEN ?/many<{_FEWEST} THEN {_FEWEST} ELSE ?/many END FROM alive"
+
+_DUE = [it.name for it in fields(Claimable)].index("due")
 
 # If nobody has a key's lock, only its first call is free, so the calls of a key begin in their order, however many workers claim.
 _IS_FREE = (
@@ -206,7 +210,7 @@ class Claimer:
 
     async def _rows(self, db: Database, claims: Claims, now: float, room: int, has_fresh: bool, read: Sequence[list[Any]]) -> list[Any]:
         """Invocations that can go on, each with its row kept until the commit. `read` are those that have lost their worker, and what was read of those
-        without a limit."""
+        without a limit. Those that have lost their worker come by their age, among the ready ones that no limit keeps waiting."""
         rows, (orphaned, *first) = list[Any](), read
         async for share in self._shares(db):
             most = min(share.room, room - len(rows))
@@ -214,13 +218,15 @@ class Claimer:
                 continue
             ready, awake = first if share is self._unlimited else await db.several(self._of(db, share, now, most))
             claims.has_more |= bool(ready) and len(ready) >= ready[0][-1]
-            found = [*(await self._woken(db, awake) if awake else ()), *(row[:-1] for row in ready)]
+            woken = await self._woken(db, awake) if awake else []
+            claims.has_more |= len(awake) == most and len(woken) < len(awake)  # those that stay as they are hide no others any more
+            lost = orphaned if share is self._unlimited else []
+            found = [*woken, *heapq.merge(lost, (row[:-1] for row in ready), key=operator.itemgetter(_DUE))]
             claims.has_more |= len(found) > most
             rows += found[:most]
         for queue in self.app.queues.values():
             if len(rows) < room:
                 rows += await self._queued(db, claims, queue, now, room - len(rows), has_fresh)
-        rows += orphaned[: room - len(rows)]
         claims.has_more |= len(rows) == room
         return rows
 
@@ -290,8 +296,8 @@ class Claimer:
         return sql, (most, most, most, most, *share.values, now)
 
     def _orphaned(self, db: Database, most: int) -> Asked:
-        """Reads running ones whose worker isn't alive. They are counted as running already, so no limit keeps them out."""
-        sql = f"SELECT {CLAIMED} FROM invocations WHERE {self.own.where} AND {orphaned(db)} LIMIT ?{db.skip}"
+        """Reads running ones whose worker isn't alive, in the order in which they were due. They are counted as running already, so no limit keeps them out."""
+        sql = f"SELECT {CLAIMED} FROM invocations WHERE {self.own.where} AND {orphaned(db)} ORDER BY due, seq LIMIT ?{db.skip}"
         return sql, (*self.own.values, most)
 
     @staticmethod

@@ -20,6 +20,7 @@ from .database import Conflict, Database, Lost, connect
 from .filters import Filter
 from .invocations import Claim, New
 from .journal import Result
+from .names import check_name
 from .outcome import Outcome, Taker
 from .services import App, TerminalError
 
@@ -53,6 +54,11 @@ async def _within(told: Told, seconds: float) -> Result | None:
         return await told
     finally:
         timer.cancel()
+
+
+def _check_id(invocation: str) -> None:
+    """`BadName` if no invocation can have this id."""
+    check_name("the invocation's id", invocation)
 
 
 class Desk:
@@ -102,6 +108,8 @@ class Desk:
         its idempotency key is that of another call (409)."""
         if self.drains:
             raise Unavailable("the worker stops, and takes no new calls")
+        check_name("the service's name", new.service)
+        check_name("the handler's name", new.handler)
         invocations.check(new, await self.target(new.service, new.handler))  # what is refused isn't in a transaction with others
         with self.taking(1) as taker:
 
@@ -132,6 +140,7 @@ class Desk:
     async def result(self, invocation: str, wait: float | None = None, told: Told | None = None) -> Result | None:
         """What an invocation ends with, or the last one that goes on in its place; none if there is no such invocation. `TimeoutError` if it hasn't ended after `wait` seconds, and
         `Unavailable` if the worker stops before. `told` is what `told_of` gave before the invocation was made: so it isn't looked for at once."""
+        _check_id(invocation)
         begun, id = time.monotonic(), invocation
         until = None if wait is None else begun + wait
         while True:
@@ -182,6 +191,7 @@ class Desk:
 
     async def notify(self, invocation: str, notification: bytes) -> bool:
         """Sends a signal from outside; returns whether there is an invocation that gets it."""
+        _check_id(invocation)
         it = chains.Delivery(Outcome(), invocation, notification)
         is_there = bool(await self.transact(After(it.reads, it.then)))
         self.tell(it.out)
@@ -190,6 +200,7 @@ class Desk:
     async def act(self, name: str, invocation: str, who: str) -> str:
         """Does an act of an operator (`acts.ACTS`) to an invocation; returns in words what it did. Raises a `TerminalError` if it can't be done."""
         acts.known(name)
+        _check_id(invocation)
         return await self.done(lambda db, out: acts.one(db, self.app, out, name, invocation, who))
 
     async def cancel(self, invocation: str, who: str = "a program") -> bool:

@@ -7,13 +7,24 @@ from .services import TerminalError
 LONGEST = 1000  # bytes in UTF-8: what an index of PostgreSQL can hold, beside the names of a service and a handler
 
 
+_ALLOWED = f"a name has at most {LONGEST} bytes in UTF-8, and no NUL"
+
+
+class BadName(TerminalError):
+    """A name, a key or an id that no database can have: it has more than 1,000 bytes in UTF-8, a NUL, or half of a surrogate pair. Nothing was asked of the
+    database. Its code is 400."""
+
+    def __init__(self, why: str):
+        super().__init__(why, 400)
+
+
 def check_name(what: str, name: str) -> None:
-    """`TerminalError` with code 400 if this can't be part of a key of the database: it is too long, has a NUL, or is no Unicode."""
+    """`BadName` if this can't be part of a key of the database: it is too long, has a NUL, or is no Unicode."""
     try:
         length = len(name.encode())
     except UnicodeEncodeError:
-        raise TerminalError(f"{what} has half of a surrogate pair, and so no UTF-8", 400) from None
+        raise BadName(f"{what} has half of a surrogate pair, and so no UTF-8") from None
     if length > LONGEST:
-        raise TerminalError(f"{what} has {length} bytes in UTF-8, and {LONGEST} are allowed", 400)
+        raise BadName(f"{what} has {length} bytes in UTF-8, and {LONGEST} are allowed")
     if "\0" in name:
-        raise TerminalError(f"{what} has the character NUL, which isn't allowed", 400)
+        raise BadName(f"{what} has the character NUL: {_ALLOWED}")

@@ -6,24 +6,31 @@ import time
 
 from . import acts, announced, invocations, journal, notes
 from .announced import Target
-from .database import Database
+from .database import Asked, Database
 from .invocations import New
 from .notes import Note
 from .outcome import Outcome
 from .refused import REFUSED, UNSERVED
-from .services import App, TerminalError
+from .services import App, Service, TerminalError
 from .traces import Trace
 
-_AT_ONCE = 100  # that one transaction looks at
+_AT_ONCE = 100  # of a service, that one transaction looks at
+_WAITS = f"status='paused' AND how='{UNSERVED}'"  # in the words of the index
+
+
+def _of(db: Database, service: Service) -> Asked:
+    """Reads what waits for the handlers of a service. By the sign of `+seq` SQLite takes the index of what waits, and not that of a service, which has all
+    that has ended."""
+    columns, marks = "id, service, handler, key, idem, queue_key, due, trace", ",".join("?" * len(service.handlers))
+    sql = f"SELECT {columns} FROM invocations WHERE {_WAITS} AND service=? AND handler IN ({marks}) ORDER BY +seq LIMIT {_AT_ONCE}{db.skip}"
+    return sql, (service.name, *service.handlers)
 
 
 async def serve(db: Database, app: App, out: Outcome) -> bool:
     """Some of what waits for a worker with this app's handlers go on, as if they were made now; what these don't take has failed. Returns whether there
     may be more."""
-    served, names = announced.served(app)
-    columns = "id, service, handler, key, idem, queue_key, due, trace"
-    waits = f"status='paused' AND status<>'done' AND how='{UNSERVED}'"  # by the second SQLite knows the index
-    rows = await db.rows(f"SELECT {columns} FROM invocations WHERE {waits} AND {served} ORDER BY seq LIMIT {_AT_ONCE}{db.skip}", names)
+    found = await db.several([_of(db, it) for it in app.services.values() if it.handlers])
+    rows = [row for some in found for row in some]
     for id, service, handler, key, idem, queue_key, due, trace in rows:
         target = announced.own(app, service, handler)
         assert target is not None
@@ -38,7 +45,7 @@ async def serve(db: Database, app: App, out: Outcome) -> bool:
     if rows:
         out.is_due(time.time())
         db.notify("ready")
-    return len(rows) == _AT_ONCE
+    return any(len(some) == _AT_ONCE for some in found)
 
 
 async def _check(db: Database, new: New, target: Target) -> None:

@@ -1,6 +1,15 @@
-use Rattle.engine_scripts.proofs.Playing.{settles}
 use Rattle.engine_scripts.proofs.happen.settle_one.Goals as goal
 
 pub returns-clause-does : goal.returns-clause-does
-returns-clause-does c =
-    settles c.args.place _ _ c.args.engine.now c.begin.new.engine c.act.new.engine c.act-2.new.engine c.store.new.engine c.deliver_all.new.engine c.in_ok-begin.ensures.does c.in_ok-act.ensures.does c.in_ok-act-2.ensures.does c.in_ok-store.ensures.does c.in_ok-deliver_all.ensures.does
+returns-clause-does c = record {
+  begun = c.begin.new.engine;
+  begins = c.in_ok-begin.ensures.does;
+  fed = c.act.new.engine;
+  feeds = c.in_ok-act.ensures.does;
+  stepped = c.act-2.new.engine;
+  count = _;
+  steps = c.in_ok-act-2.ensures.does;
+  stored = c.store.new.engine;
+  stores = c.in_ok-store.ensures.does;
+  delivers = c.in_ok-deliver_all.ensures.does;
+}

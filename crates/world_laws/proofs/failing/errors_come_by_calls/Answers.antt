@@ -1,4 +1,4 @@
-use Rattle.world_laws.proofs.Failures.{failed_by_call}
+use Rattle.vm_attempt.proofs.Failing.{failed_by_call}
 use Rattle.world_laws.proofs.failing.errors_come_by_calls.Goals as goal
 
 pub returns : goal.returns

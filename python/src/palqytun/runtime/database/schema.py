@@ -182,7 +182,10 @@ CREATE TABLE progress(
 CREATE VIEW palqytun_attributes AS SELECT invocation, name, value FROM attributes
 """
 
-MIGRATIONS = [_FIRST, _SECOND, _THIRD, _FOURTH, _FIFTH, _SIXTH, _SEVENTH, _EIGHTH, _NINTH, _TENTH]
+# What waits for a worker that serves it.
+_ELEVENTH = "CREATE INDEX invocations_unserved ON invocations(service, handler, seq) WHERE status='paused' AND how='unserved'"
+
+MIGRATIONS = [_FIRST, _SECOND, _THIRD, _FOURTH, _FIFTH, _SIXTH, _SEVENTH, _EIGHTH, _NINTH, _TENTH, _ELEVENTH]
 _OLDEST = 3  # what older databases hold can't be read any more
 
 VERSIONS = "CREATE TABLE IF NOT EXISTS schema_versions(version INTEGER PRIMARY KEY)"

@@ -3,8 +3,8 @@ use Rattle.c_calls.proofs.awaits.AwaitCallVmCall.make.Goals as goal
 pub returns : goal.returns
 returns c = (
   record {
-    given = c.do_await.result;
-    calls = c.do_await.ensures;
+    given = c.await_handle.result;
+    calls = c.await_handle.ensures;
     told = c.keep_awaited.ensures.kept;
   },
   c.keep_awaited.ensures.told,

@@ -1,5 +1,6 @@
 use Rattle.vm_attempt.specs.Inside.{the_fields, the_record}
 use Rattle.vm_attempt.proofs.Blamed.{close_blames}
+use Rattle.vm_attempt.proofs.Caused.{close_led}
 use Rattle.vm_attempt.proofs.Coming.{close_comes}
 use Rattle.vm_attempt.proofs.InReplay.{close_in_replay}
 use Rattle.vm_attempt.proofs.Late.{close_late}
@@ -24,6 +25,7 @@ invariant_of-self g c =
       close_sleeps fixed old c.close-closed.result new c.self.invariant.4 does,
       c.output_len.ensures.whole,
       close_in_replay fixed old c.close-closed.result new c.self.invariant.6 does,
+      close_led fixed old c.close-closed.result new does c.self.invariant.7,
     )
 
 pub returns-clause-does : goal.returns-clause-does

@@ -1,5 +1,6 @@
 use Rattle.vm_attempt.specs.Inside.{the_fields, the_record}
 use Rattle.vm_attempt.proofs.Blamed.{feed_blames}
+use Rattle.vm_attempt.proofs.Caused.{feed_led}
 use Rattle.vm_attempt.proofs.Coming.{feed_comes}
 use Rattle.vm_attempt.proofs.InReplay.{feed_in_replay}
 use Rattle.vm_attempt.proofs.Late.{feed_late}
@@ -24,6 +25,7 @@ invariant_of-self g c =
       feed_sleeps fixed c.args.piece old c.feed-fed.result new c.self.invariant.3 c.self.invariant.4 does,
       c.output_len.ensures.whole,
       feed_in_replay fixed c.args.piece old c.feed-fed.result new c.self.invariant.6 does,
+      feed_led fixed c.args.piece old c.feed-fed.result new does c.self.invariant.7,
     )
 
 pub returns-clause-does : goal.returns-clause-does

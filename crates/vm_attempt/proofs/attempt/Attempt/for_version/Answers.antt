@@ -4,6 +4,7 @@ use Rattle.vm_attempt.specs.Inside.{the_fields}
 use Rattle.vm_attempt.specs.Invariant.{AlwaysHolds}
 use Rattle.vm_attempt.proofs.Advanced.{new_is_new, new_whole}
 use Rattle.vm_attempt.proofs.Blamed.{new_blamed}
+use Rattle.vm_attempt.proofs.Caused.{new_led}
 use Rattle.vm_attempt.proofs.Steady.{made_told, new_told}
 use Rattle.vm_attempt.proofs.attempt.Attempt.for_version.Goals as goal
 use Rattle.vm_model.specs.Fixed.{fixed_by}
@@ -21,6 +22,7 @@ invariant_of-result g c =
       λ p made over. absurd (let z : None ≡ Some made = over in cc),
       new_whole c.args.alloc c.args.options c.args.version (seen c.in-Ok.vm) c.in-Ok.ensures,
       λ p. inl fresh,
+      new_led m c.args.alloc c.args.options c.args.version (seen c.in-Ok.vm) c.in-Ok.ensures,
     )
 
 pub returns-in-Ok : goal.returns-in-Ok

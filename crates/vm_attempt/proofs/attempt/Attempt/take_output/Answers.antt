@@ -1,5 +1,6 @@
 use Rattle.vm_attempt.specs.Inside.{the_fields, the_record}
 use Rattle.vm_attempt.proofs.Blamed.{take_blames}
+use Rattle.vm_attempt.proofs.Caused.{take_led}
 use Rattle.vm_attempt.proofs.Coming.{take_comes}
 use Rattle.vm_attempt.proofs.InReplay.{take_in_replay}
 use Rattle.vm_attempt.proofs.Late.{take_late}
@@ -24,6 +25,7 @@ invariant_of-self g c =
       take_sleeps fixed old c.take_output-taken.result new c.self.invariant.4 does,
       c.output_len.ensures.whole,
       take_in_replay fixed old c.take_output-taken.result new c.self.invariant.6 does,
+      take_led fixed old c.take_output-taken.result new does c.self.invariant.7,
     )
 
 pub returns-clause-does : goal.returns-clause-does

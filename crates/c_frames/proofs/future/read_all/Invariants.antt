@@ -1,9 +1,0 @@
-use Rattle.std.proofs.Common.{length}
-use Rattle.c_frames.specs.Noting.{NotedUpTo}
-use Rattle.c_frames.proofs.future.read_all.Given as goal
-
-abbrev pub invariant-loop-decoder : goal.invariant-loop-decoder
-invariant-loop-decoder l = NotedUpTo l.stream l.came l.decoder
-
-abbrev pub decreases-loop-decoder : goal.decreases-loop-decoder
-decreases-loop-decoder l = length l.decoder
