@@ -2,15 +2,11 @@
 
 from __future__ import annotations
 
-import re
 from pathlib import Path
 
-from tools.gate import counts as counting
-from tools.programs.commands import ended
+from .common import Bindings, copied, example_of, loads, plays
+from .node_tests import command
 
-from .common import SECONDS, Bindings, copied, example_of, loads, plays
-
-COUNT = re.compile(r"^\W (pass|fail|cancelled|skipped|todo) (\d+)$", re.M)
 TESTS = ("test/effects.test.js", "test/misuse.test.js", "test/differing.test.js", "test/memory.test.js")
 
 
@@ -29,11 +25,6 @@ def node(it: Bindings) -> None:
     example.write_text(code, encoding="utf-8")
     it.checks.prints("the example of bindings/node/README.md", ["node", str(example)], printed, env, folder)
     it.checks.build("the bench for Node", ["node", f"{folder}/examples/bench.js", "1"], env)
-    ran = ended(["node", "--test", *TESTS], env, folder, SECONDS)
-    said = {word: int(count) for word, count in COUNT.findall(ran.output)}
-    passed = said.pop("pass", 0)
-    found = counting.with_status(counting.Counts(passed, sum(said.values())), 1 if ran.status is None else ran.status)
-    it.checks.counts += found
-    print(f"{ran.output + ran.said if found.failed else ''}bindings tests of bindings/node: {found}", flush=True)
+    it.counted("tests of bindings/node", command(f"{folder}/{test}" for test in TESTS), env)
     if it.checks.has("types of bindings/node", "typescript"):
         it.checks.build("types of bindings/node", ["tsc", "-p", "."], env, folder)

@@ -7,13 +7,12 @@ import shutil
 import sys
 from pathlib import Path
 
-from tools.gate import counts as counting
 from tools.gate import packages
 from tools.pages import protocol
 from tools.programs.commands import ended
 
 from .common import SECONDS, Bindings, copied, example_of
-from .node import COUNT
+from .node_tests import command
 
 TOP = Path(__file__).resolve().parents[2]
 POSTGRES, CHAOS = "python/tests/postgres.py", "python/tests/crash/chaos.py"
@@ -30,12 +29,7 @@ def typescript(it: Bindings) -> None:
     if folder is None or not it.checks.has("the SDK in TypeScript on a database", "postgresql", "psycopg", "cryptography"):
         return
     tests = sorted(str(one) for one in Path(folder, "out/test").glob("*.test.js"))
-    ran = ended(beside_a_database("node", "--test", *tests), env, None, SECONDS)
-    said = {word: int(count) for word, count in COUNT.findall(ran.output)}
-    passed = said.pop("pass", 0)
-    found = counting.with_status(counting.Counts(passed, sum(said.values())), 1 if ran.status is None else ran.status)
-    it.checks.counts += found
-    print(f"{ran.output + ran.said if found.failed else ''}bindings tests of typescript: {found}", flush=True)
+    it.counted("tests of typescript", beside_a_database(*command(tests)), env)
     example(it, env, folder)
     killed(it, env, folder)
 

@@ -24,11 +24,13 @@ OUT = "out/prove"
 TIMES = Path(OUT, "times.json")
 ARCHIVE = "crates/ffi/out/libffi.a"  # below the folder in which it is proved
 PROOFS, BUILDS = "proofs", "builds"
-CHAIN = f"{PROOFS}/chain"
-HEAD = "engines"  # the longest chain of crates leads to it
+CHAIN, LOW = f"{PROOFS}/chain", f"{PROOFS}/low"
+HEAD = "vmengine"  # the longest chain of crates leads to it
+LINE = "vm_machine"  # from it on each crate of the longest chain waits for the one before
 ROOM = 5_000_000  # kilobytes for each processor, if two runs of rt ci prove beside each other
 HOURS = 6 * 3600  # that rt ci may take
 SMALL = 1_500_000  # kilobytes for a job that proves nothing
+PATIENCE = 900  # seconds that the crates beside the longest chain wait for another process
 LOOK = 2  # seconds between two looks at the processes
 BESIDE_CHAIN = 5  # the priority of what is proved beside the longest chain
 
@@ -56,29 +58,47 @@ PARTS = [
 ]
 
 
-def jobs(seconds: dict[str, float], chain: Path | None, after: int | None) -> Iterator[Job]:
-    """The jobs of ./prove, with the seconds that they took last time. If there is a folder of the crates of the longest chain, these are also proved there,
-    and begin at once. The crates beside them wait until a process has ended, if one is given. One rt ci alone waits for nothing."""
-    for it in every_job(chain, after):
+@dataclass(frozen=True)
+class Trees:
+    """The folders in which some crates are proved beside all: those of the longest chain, and those below the part of it that is one crate after another."""
+
+    chain: Path
+    low: Path
+
+
+def jobs(seconds: dict[str, float], trees: Trees | None, after: int | None) -> Iterator[Job]:
+    """The jobs of ./prove, with the seconds that they took last time. If there are folders of some crates, these are also proved there. The longest chain
+    begins at once, and the crates beside it once a process has ended, if one is given. One rt ci alone waits for nothing."""
+    for it in every_job(trees, after):
         yield replace(it, seconds=max(round(seconds.get(it.name, it.seconds)), 1))
 
 
+def on_half(words: tuple[str, ...]) -> tuple[str, ...]:
+    """A command that has every second processor: rt ci has as many processes as it has processors, and a lone check gets all of them."""
+    those = sorted(os.sched_getaffinity(0))[::2]
+    return ("taskset", "-c", ",".join(map(str, those)), *words)
+
+
+def beside(trees: Trees, proofs: Job, after: int | None) -> Iterator[Job]:
+    """rt ci of the longest chain, of the crates below its last part, and then of all. Each run takes what another has proved, and waits for what it is proving.
+    The one of all crates begins late: one that proves a crate is the first to begin the next, and has one process for each, so it would take the chain over."""
+    yield replace(proofs, name=CHAIN, counts=counts.of_status, folder=str(trees.chain), words=on_half(proofs.words), env={"RT_JOBS": ""})
+    words = with_priority(BESIDE_CHAIN, proofs.words)
+    low = replace(proofs, name=LOW, counts=counts.of_status, folder=str(trees.low), words=once_ended(after, words), cores=0)
+    yield replace(low, env={"RT_JOBS": str(lanes() + 1)})  # one of them waits for the chain
+    yield replace(proofs, words=words, after=(LOW,), cores=0, env={"RT_JOBS": str(lanes())})
+
+
 def once_ended(process: int | None, words: tuple[str, ...]) -> tuple[str, ...]:
-    """A command that begins once a process has ended."""
-    return words if process is None else ("sh", "-c", 'tail --pid="$0" -f /dev/null; exec "$@"', str(process), *words)
+    """A command that begins once a process has ended, or has taken too long."""
+    return words if process is None else ("sh", "-c", f'timeout {PATIENCE} tail --pid="$0" -f /dev/null; exec "$@"', str(process), *words)
 
 
-def every_job(chain: Path | None, after: int | None = None) -> Iterator[Job]:
+def every_job(trees: Trees | None, after: int | None = None) -> Iterator[Job]:
     # rt ci takes all cores for itself; the library is built in its last minutes, as soon as what it stands on is proved.
     room, logs = tree.place(), TOP / OUT / "logs"
     proofs = replace(job(PROOFS, "rt", "ci"), seconds=2400, cores=1000, limit=HOURS, folder=str(room))
-    if chain:
-        # Without RT_JOBS a check has two processes while no other of its run waits. Each run takes what the other keeps.
-        alone = replace(job(CHAIN, "rt", "ci"), seconds=2400, cores=1000, limit=HOURS, folder=str(chain))
-        yield replace(alone, counts=counts.of_status, env={"RT_JOBS": ""})
-        words = once_ended(after, with_priority(BESIDE_CHAIN, proofs.words))
-        proofs = replace(proofs, words=words, cores=0, env={"RT_JOBS": str(beside_chain())})
-    yield proofs
+    yield from beside(trees, proofs, after) if trees else [proofs]
     library = script("library", str(TOP / "tools/static-library"), "ffi", str(logs / f"{PROOFS}.log"))
     yield replace(library, counts=counts.of_status, cores=0, limit=HOURS, folder=str(room))
     # So are the examples run over it, which wait for a core as little.
@@ -98,21 +118,29 @@ def every_job(chain: Path | None, after: int | None = None) -> Iterator[Job]:
     yield replace(script("rows", "tools/rows"), after=(BUILDS,))
 
 
+def urgent(crates: Mapping[str, Crate]) -> set[str]:
+    """The longest chain of crates, and what its first part stands on; all if these crates are others."""
+    if HEAD not in crates:
+        return set(crates)
+    first = tree.below(crates, [LINE])
+    return first | {it for it in tree.below(crates, [HEAD]) if LINE in tree.below(crates, [it])}
+
+
 class ShowProofs(Show):
     """Prints how far rt ci is, and then what follows it."""
 
     def __init__(self, those: list[Job], proofs: Proofs, cores: int, is_strict: bool) -> None:
         super().__init__(those, is_strict)
         self.proofs, self.cores, self.processors = proofs, cores, Processors()
-        self.chain = tree.below(proofs.crates, [HEAD] if HEAD in proofs.crates else proofs.crates)
-        self.read = {it: 0 for it in (CHAIN, PROOFS)}
+        self.chain = urgent(proofs.crates)
+        self.read = {it: 0 for it in (CHAIN, LOW, PROOFS)}
         self.looked = 0.0
 
     def ticked(self) -> None:
         if self._proves() and time.monotonic() - self.looked >= LOOK:
             self.looked = time.monotonic()
             self.processors.look()
-            self.processors.put_behind(self.chain)  # either run may have begun a crate of the chain
+            self.processors.put_behind(self.chain)  # each run may have begun a crate of the chain
             self.proofs.spent = self.processors.by_crate()
             self._read()
         super().ticked()
@@ -152,7 +180,7 @@ class ShowProofs(Show):
 
     def _later(self) -> float:
         """The seconds of what follows rt ci. The library is built beside it, and the examples run over it."""
-        return sum(seconds for name, seconds in self.seconds.items() if name not in (CHAIN, PROOFS, "library", "bindings", BUILDS)) / self.cores
+        return sum(seconds for name, seconds in self.seconds.items() if name not in (CHAIN, LOW, PROOFS, "library", "bindings", BUILDS)) / self.cores
 
 
 def arguments(words: list[str]) -> argparse.Namespace:
@@ -176,20 +204,16 @@ def write_times(proofs: Proofs, last: dict[str, float], done: dict[str, Done]) -
     TIMES.write_text(json.dumps(found, indent=1) + "\n", encoding="utf-8")
 
 
-def beside_chain() -> int:
-    """How many crates rt ci works at beside the run of the longest chain: more than there are processors, since it waits for those that the other run is
-    proving, up to three at a time, and they take no processor in this one."""
-    return lanes() + 2
-
-
-def chain_tree(crates: Mapping[str, Crate], is_set: bool) -> Path | None:
-    """The folder of the crates up to the head of the longest chain, which a second rt ci proves: unless somebody has said how many to prove at a time,
-    memory is short, or nothing would be kept."""
-    if is_set or not keeps_proofs() or free_memory() < ROOM * processors():
+def made_trees(crates: Mapping[str, Crate], is_set: bool) -> Trees | None:
+    """The folders of the crates that are proved beside all: unless somebody has said how many to prove at a time, memory is short, or nothing would be
+    kept."""
+    if is_set or processors() < 2 or not keeps_proofs() or free_memory() < ROOM * processors():
         return None
-    place = tree.place(name="prove-chain")
-    tree.make(TOP, place, tree.below(crates, [HEAD]), but=["must-fail"])  # the other run tries these
-    return place
+    found = Trees(tree.place(name="prove-chain"), tree.place(name="prove-low"))
+    low = [it for it in crates if LINE not in tree.below(crates, [it])]
+    for place, names in ((found.chain, tree.below(crates, [HEAD])), (found.low, low)):
+        tree.make(TOP, place, names, but=["must-fail"])  # the run of all crates tries these
+    return found
 
 
 def run(options: argparse.Namespace) -> int:
@@ -199,11 +223,11 @@ def run(options: argparse.Namespace) -> int:
     crates = read_crates(TOP, [it.name for it in TOP.glob("crates/*") if has_tests(it)])
     crates = {name: crates[name] for name in tree.promising(crates)}
     tree.make(TOP, tree.place(), crates)
-    chain = chain_tree(crates, is_set=bool(options.jobs or named_lanes()))
+    trees = made_trees(crates, is_set=bool(options.jobs or named_lanes()))
     proofs = Proofs(crates, {name: it for name, it in times.items() if name in crates})
-    those = list(jobs(of_jobs, chain, options.after))
+    those = list(jobs(of_jobs, trees, options.after))
     at_a_time = options.jobs or lanes()
-    how = f"{at_a_time} at a time, those of the longest chain first" if chain else f"{at_a_time} at a time"
+    how = f"{at_a_time} at a time, those of the longest chain first" if trees else f"{at_a_time} at a time"
     print(f"{len(crates)} crates, {how}; logs: {OUT}/logs", flush=True)
     show = ShowProofs(those, proofs, at_a_time, options.no_skips)
     env = {**environment(TOP / OUT / "bin"), "RT_JOBS": str(at_a_time)}
@@ -212,8 +236,8 @@ def run(options: argparse.Namespace) -> int:
         done = runner.run()
     finally:
         write_times(proofs, of_jobs, runner.done)
-        if chain:
-            shutil.rmtree(chain, ignore_errors=True)
+        for it in (trees.chain, trees.low) if trees else ():
+            shutil.rmtree(it, ignore_errors=True)
     show.close()
     found = total(done, options.no_skips)
     print(f"./prove took {minutes(time.monotonic() - begun)}")

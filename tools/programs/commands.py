@@ -18,12 +18,17 @@ class Ended:
         return f"status {self.status}, {self.output[-300:]!r}, {self.said[-600:]!r}"
 
 
+def _text(output: bytes | str | None) -> str:
+    """What was read of a command's output until it was ended."""
+    return output.decode(errors="replace") if isinstance(output, bytes) else output or ""
+
+
 def ended(words: list[str], env: dict[str, str] | None, cwd: str | None, seconds: int) -> Ended:
     """Runs a command."""
     try:
         ran = subprocess.run(words, env=env, cwd=cwd, stdin=subprocess.DEVNULL, capture_output=True, text=True, errors="replace", timeout=seconds)
-    except subprocess.TimeoutExpired:
-        return Ended(None, "", f"had not ended after {seconds} seconds")
+    except subprocess.TimeoutExpired as error:
+        return Ended(None, _text(error.stdout), f"{_text(error.stderr)}had not ended after {seconds} seconds")
     except OSError as error:
         return Ended(None, "", str(error))
     return Ended(ran.returncode, ran.stdout, ran.stderr)

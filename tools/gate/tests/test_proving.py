@@ -8,29 +8,46 @@ from pathlib import Path
 from unittest import mock
 
 from tools.gate import proving, tree
-from tools.gate.environment import TOP, lanes
+from tools.gate.environment import TOP, lanes, processors
+from tools.gate.jobs import Job
 from tools.gate.proofs import read_crates
+
+TREES = proving.Trees(Path("chain"), Path("low"))
 
 
 class Order(unittest.TestCase):
-    def test_the_chain_is_proved_beside_all_with_as_many_processes_as_rt_gives_a_check(self) -> None:
-        chain, proofs = [it for it in proving.every_job(Path("chain")) if it.part == proving.PROOFS]
-        self.assertEqual((chain.name, chain.words, chain.folder, chain.env), (proving.CHAIN, ("rt", "ci"), "chain", {"RT_JOBS": ""}))
-        self.assertEqual((proofs.words[-2:], proofs.after, proofs.needs, proofs.cores), (("rt", "ci"), (), (), 0))
-        self.assertEqual(proofs.env, {"RT_JOBS": str(lanes() + 2)})
+    def runs(self, after: int | None = None, trees: proving.Trees | None = TREES) -> list[Job]:
+        """Those of rt ci."""
+        return [it for it in proving.every_job(trees, after) if it.part == proving.PROOFS]
+
+    def test_the_chain_has_half_of_the_processors_and_as_many_processes_as_rt_gives_a_check(self) -> None:
+        chain, low, proofs = self.runs()
+        self.assertEqual([it.name for it in (chain, low, proofs)], [proving.CHAIN, proving.LOW, proving.PROOFS])
+        self.assertEqual((chain.words[:2], chain.words[3:], chain.folder, chain.env), (("taskset", "-c"), ("rt", "ci"), "chain", {"RT_JOBS": ""}))
+        half = subprocess.run([*chain.words[:3], "nproc"], capture_output=True, text=True, check=True)
+        self.assertEqual(int(half.stdout), (processors() + 1) // 2)
+        self.assertEqual((low.words[-2:], low.folder, low.after, low.cores), (("rt", "ci"), "low", (), 0))
+        self.assertEqual((proofs.words[-2:], proofs.folder, proofs.after, proofs.cores), (("rt", "ci"), str(tree.place()), (proving.LOW,), 0))
+        self.assertEqual([it.env for it in (low, proofs)], [{"RT_JOBS": str(lanes() + 1)}, {"RT_JOBS": str(lanes())}])
 
     def test_what_stands_beside_the_chain_waits_for_a_process_if_one_is_named(self) -> None:
         with subprocess.Popen(("sleep", "0.5")) as other:
-            chain, proofs = [it for it in proving.every_job(Path("chain"), after=other.pid) if it.part == proving.PROOFS]
-            self.assertEqual((chain.words, proofs.words[-2:]), (("rt", "ci"), ("rt", "ci")))
-            waits = subprocess.Popen((*proofs.words[:-2], "echo", "begun"), stdout=subprocess.PIPE, text=True)
+            chain, low, _ = self.runs(after=other.pid)
+            self.assertEqual((chain.words[-2:], low.words[-2:]), (("rt", "ci"), ("rt", "ci")))
+            waits = subprocess.Popen((*low.words[:-2], "echo", "begun"), stdout=subprocess.PIPE, text=True)
             self.assertIsNone(waits.poll())
         self.assertEqual(waits.communicate(timeout=60)[0], "begun\n")
 
+    def test_a_process_that_does_not_end_is_not_waited_for_without_end(self) -> None:
+        with mock.patch.object(proving, "PATIENCE", 1):
+            low = self.runs(after=os.getpid())[1]
+        waits = subprocess.run((*low.words[:-2], "echo", "begun"), capture_output=True, text=True, timeout=60)
+        self.assertEqual(waits.stdout, "begun\n")
+
     def test_all_is_proved_at_once_if_nothing_is_kept(self) -> None:
         for after in (None, os.getpid()):
-            (proofs,) = [it for it in proving.every_job(None, after) if it.part == proving.PROOFS]
-            self.assertEqual((proofs.name, proofs.after, proofs.env), (proving.PROOFS, (), {}))
+            (proofs,) = self.runs(after, trees=None)
+            self.assertEqual((proofs.name, proofs.words, proofs.after, proofs.env), (proving.PROOFS, ("rt", "ci"), (), {}))
 
     def test_the_library_is_tried_beside_the_proofs_and_before_it_is_moved(self) -> None:
         those = {it.name: it for it in proving.every_job(None)}
@@ -39,28 +56,34 @@ class Order(unittest.TestCase):
         self.assertIn("bindings", those[proving.BUILDS].after)
 
 
-class Chain(unittest.TestCase):
+class Trees(unittest.TestCase):
     def setUp(self) -> None:
-        self.place = Path(self.enterContext(tempfile.TemporaryDirectory())) / "chain"
-        self.enterContext(mock.patch.object(tree, "place", return_value=self.place))
+        self.room = Path(self.enterContext(tempfile.TemporaryDirectory()))
+        self.enterContext(mock.patch.object(tree, "place", side_effect=lambda name: self.room / name))
         self.crates = read_crates(TOP, ())
 
-    def made(self, keeps: bool = True, free: int = 1 << 40, is_set: bool = False) -> Path | None:
+    def made(self, keeps: bool = True, free: int = 1 << 40, is_set: bool = False) -> proving.Trees | None:
         with mock.patch.object(proving, "keeps_proofs", return_value=keeps), mock.patch.object(proving, "free_memory", return_value=free):
-            return proving.chain_tree(self.crates, is_set=is_set)
+            return proving.made_trees(self.crates, is_set=is_set)
 
-    def test_it_has_the_crates_up_to_its_head(self) -> None:
-        self.assertEqual(self.made(), self.place)
-        found = read_crates(self.place, ())
-        self.assertEqual(set(found), tree.below(self.crates, [proving.HEAD]))
-        self.assertIn("vm_machine", found)
-        self.assertNotIn("vmengine", found)
-        self.assertEqual(list(self.place.glob("crates/*/must-fail")), [])
+    def test_they_have_the_longest_chain_and_what_does_not_stand_on_its_last_part(self) -> None:
+        found = self.made()
+        assert found is not None
+        chain, low = (set(read_crates(it, ())) for it in (found.chain, found.low))
+        self.assertEqual(chain, tree.below(self.crates, [proving.HEAD]))
+        self.assertIn(proving.LINE, chain)
+        self.assertEqual(low, {it for it in self.crates if proving.LINE not in tree.below(self.crates, [it])})
+        self.assertEqual(list(self.room.glob("*/crates/*/must-fail")), [])
 
-    def test_there_is_none_where_it_would_be_proved_twice_or_memory_is_short_or_jobs_are_set(self) -> None:
+    def test_there_are_none_where_crates_would_be_proved_twice_or_memory_is_short_or_jobs_are_set(self) -> None:
         for more in ({"keeps": False}, {"free": 1 << 20}, {"is_set": True}):
             self.assertIsNone(self.made(**more))  # type: ignore[arg-type]
-        self.assertFalse(self.place.exists())
+        self.assertEqual(list(self.room.iterdir()), [])
+
+    def test_the_chain_and_what_it_begins_with_are_urgent(self) -> None:
+        found = proving.urgent(self.crates)
+        self.assertLessEqual({"plain", "journal_messages", "vm_machine", "engines", "vmengine"}, found)
+        self.assertFalse({"lines", "call_lines", "ffi"} & found)
 
 
 if __name__ == "__main__":
