@@ -30,6 +30,7 @@ LINE = "vm_machine"  # from it on each crate of the longest chain waits for the 
 ROOM = 5_000_000  # kilobytes for each processor, if two runs of rt ci prove beside each other
 HOURS = 6 * 3600  # that rt ci may take
 SMALL = 1_500_000  # kilobytes for a job that proves nothing
+MOMENT = 10  # seconds by which the longest chain begins before what is beside it
 PATIENCE = 900  # seconds that the crates beside the longest chain wait for another process
 LOOK = 2  # seconds between two looks at the processes
 BESIDE_CHAIN = 5  # the priority of what is proved beside the longest chain
@@ -90,8 +91,9 @@ def beside(trees: Trees, proofs: Job, after: int | None) -> Iterator[Job]:
 
 
 def once_ended(process: int | None, words: tuple[str, ...]) -> tuple[str, ...]:
-    """A command that begins once a process has ended, or has taken too long."""
-    return words if process is None else ("sh", "-c", f'timeout {PATIENCE} tail --pid="$0" -f /dev/null; exec "$@"', str(process), *words)
+    """A command that begins once a process has ended, or has taken too long; if none is given, a moment later."""
+    waits = f"sleep {MOMENT}" if process is None else f'timeout {PATIENCE} tail --pid="$0" -f /dev/null'
+    return ("sh", "-c", f'{waits}; exec "$@"', str(process), *words)
 
 
 def every_job(trees: Trees | None, after: int | None = None) -> Iterator[Job]:

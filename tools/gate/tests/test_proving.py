@@ -3,6 +3,7 @@
 import os
 import subprocess
 import tempfile
+import time
 import unittest
 from pathlib import Path
 from unittest import mock
@@ -37,6 +38,14 @@ class Order(unittest.TestCase):
             waits = subprocess.Popen((*low.words[:-2], "echo", "begun"), stdout=subprocess.PIPE, text=True)
             self.assertIsNone(waits.poll())
         self.assertEqual(waits.communicate(timeout=60)[0], "begun\n")
+
+    def test_what_stands_beside_the_chain_begins_a_moment_later(self) -> None:
+        with mock.patch.object(proving, "MOMENT", 0.5):
+            low = self.runs()[1]
+        begun = time.monotonic()
+        waits = subprocess.run((*low.words[:-2], "echo", "begun"), capture_output=True, text=True, timeout=60)
+        self.assertEqual(waits.stdout, "begun\n")
+        self.assertGreaterEqual(time.monotonic() - begun, 0.5)
 
     def test_a_process_that_does_not_end_is_not_waited_for_without_end(self) -> None:
         with mock.patch.object(proving, "PATIENCE", 1):
