@@ -91,7 +91,7 @@ class Trees(unittest.TestCase):
 
     def test_the_chain_and_what_it_begins_with_are_urgent(self) -> None:
         found = proving.urgent(self.crates)
-        self.assertLessEqual({"plain", "journal_messages", "vm_machine", "engines", "vmengine"}, found)
+        self.assertLessEqual({"plain", "journal_messages", "vm_machine", "engines"}, found)
         self.assertFalse({"lines", "call_lines", "ffi"} & found)
 
 
