@@ -24,16 +24,17 @@ OUT = "out/prove"
 TIMES = Path(OUT, "times.json")
 ARCHIVE = "crates/ffi/out/libffi.a"  # below the folder in which it is proved
 PROOFS, BUILDS = "proofs", "builds"
-CHAIN, LOW = f"{PROOFS}/chain", f"{PROOFS}/low"
-HEAD = "engines"  # the longest chain of crates leads to it
+CHAIN, LOW, TAIL = (f"{PROOFS}/{it}" for it in ("chain", "low", "tail"))
 LINE = "vm_machine"  # from it on each crate of the longest chain waits for the one before
+NEAR, HEAD = "world_rounds", "engines"  # the longest chain of crates leads to them
+END = "vmengine"  # and then here, with what reads lines
 ROOM = 5_000_000  # kilobytes for each processor, if two runs of rt ci prove beside each other
 HOURS = 6 * 3600  # that rt ci may take
 SMALL = 1_500_000  # kilobytes for a job that proves nothing
 MOMENT = 10  # seconds by which the longest chain begins before what is beside it
 PATIENCE = 900  # seconds that the crates beside the longest chain wait for another process
 LOOK = 2  # seconds between two looks at the processes
-BESIDE_CHAIN = 5  # the priority of what is proved beside the longest chain
+BESIDE_CHAIN = 10  # the priority of what is proved beside the longest chain
 
 ABOUT = """Proves every crate except those of tests and the bench, and has the prover refuse the wrong bodies of the gate (rt ci, in a folder of its own).
 Then each program runs once without each of its allocations in turn, and so do the examples in C and Python, over the library built from
@@ -61,10 +62,12 @@ PARTS = [
 
 @dataclass(frozen=True)
 class Trees:
-    """The folders in which some crates are proved beside all: those of the longest chain, and those below the part of it that is one crate after another."""
+    """The folders in which some crates are proved beside all: those of the longest chain, those that don't stand on the part of it that is one crate after
+    another, and those up to its end."""
 
     chain: Path
     low: Path
+    tail: Path
 
 
 def jobs(seconds: dict[str, float], trees: Trees | None, after: int | None) -> Iterator[Job]:
@@ -81,12 +84,16 @@ def on_half(words: tuple[str, ...]) -> tuple[str, ...]:
 
 
 def beside(trees: Trees, proofs: Job, after: int | None) -> Iterator[Job]:
-    """rt ci of the longest chain, of the crates below its last part, and then of all. Each run takes what another has proved, and waits for what it is proving.
-    The one of all crates begins late: one that proves a crate is the first to begin the next, and has one process for each, so it would take the chain over."""
-    yield replace(proofs, name=CHAIN, counts=counts.of_status, folder=str(trees.chain), words=on_half(proofs.words), env={"RT_JOBS": ""})
+    """rt ci of the longest chain, of the crates below its last part, of all, and of the chain's end. Each run takes what another has proved, and waits for what
+    it is proving. That of all crates begins late: a run that proves a crate is the first to begin the next, and this one has one process for each, so it would
+    take the chain over. That of the end is ready in time, has nothing else to do, and so gives a check all processors."""
+    freely = {"RT_JOBS": ""}
+    yield replace(proofs, name=CHAIN, counts=counts.of_status, folder=str(trees.chain), words=on_half(proofs.words), env=freely)
     words = with_priority(BESIDE_CHAIN, proofs.words)
     low = replace(proofs, name=LOW, counts=counts.of_status, folder=str(trees.low), words=once_ended(after, words), cores=0)
     yield replace(low, env={"RT_JOBS": str(lanes() + 1)})  # one of them waits for the chain
+    tail = replace(proofs, name=TAIL, counts=counts.of_status, folder=str(trees.tail), words=once_proved(NEAR, proofs.words))
+    yield replace(tail, cores=0, env=freely)
     yield replace(proofs, words=words, after=(LOW,), cores=0, env={"RT_JOBS": str(lanes())})
 
 
@@ -94,6 +101,12 @@ def once_ended(process: int | None, words: tuple[str, ...]) -> tuple[str, ...]:
     """A command that begins once a process has ended, or has taken too long; if none is given, a moment later."""
     waits = f"sleep {MOMENT}" if process is None else f'timeout {PATIENCE} tail --pid="$0" -f /dev/null'
     return ("sh", "-c", f'{waits}; exec "$@"', str(process), *words)
+
+
+def once_proved(crate: str, words: tuple[str, ...]) -> tuple[str, ...]:
+    """A command that begins once the run of the longest chain has proved a crate, or has ended."""
+    log = TOP / OUT / "logs" / f"{CHAIN.replace('/', '-')}.log"
+    return (sys.executable, "-B", str(TOP / "tools/gate/waiting.py"), str(log), crate, *words)
 
 
 def every_job(trees: Trees | None, after: int | None = None) -> Iterator[Job]:
@@ -120,22 +133,14 @@ def every_job(trees: Trees | None, after: int | None = None) -> Iterator[Job]:
     yield replace(script("rows", "tools/rows"), after=(BUILDS,))
 
 
-def urgent(crates: Mapping[str, Crate]) -> set[str]:
-    """The longest chain of crates, and what its first part stands on; all if these crates are others."""
-    if HEAD not in crates:
-        return set(crates)
-    first = tree.below(crates, [LINE])
-    return first | {it for it in tree.below(crates, [HEAD]) if LINE in tree.below(crates, [it])}
-
-
 class ShowProofs(Show):
     """Prints how far rt ci is, and then what follows it."""
 
     def __init__(self, those: list[Job], proofs: Proofs, cores: int, is_strict: bool) -> None:
         super().__init__(those, is_strict)
         self.proofs, self.cores, self.processors = proofs, cores, Processors()
-        self.chain = urgent(proofs.crates)
-        self.read = {it: 0 for it in (CHAIN, LOW, PROOFS)}
+        self.chain = tree.below(proofs.crates, [HEAD] if HEAD in proofs.crates else proofs.crates)
+        self.read = {it: 0 for it in (CHAIN, LOW, TAIL, PROOFS)}
         self.looked = 0.0
 
     def ticked(self) -> None:
@@ -182,7 +187,7 @@ class ShowProofs(Show):
 
     def _later(self) -> float:
         """The seconds of what follows rt ci. The library is built beside it, and the examples run over it."""
-        return sum(seconds for name, seconds in self.seconds.items() if name not in (CHAIN, LOW, PROOFS, "library", "bindings", BUILDS)) / self.cores
+        return sum(seconds for name, seconds in self.seconds.items() if name not in (CHAIN, LOW, TAIL, PROOFS, "library", "bindings", BUILDS)) / self.cores
 
 
 def arguments(words: list[str]) -> argparse.Namespace:
@@ -211,11 +216,12 @@ def made_trees(crates: Mapping[str, Crate], is_set: bool) -> Trees | None:
     kept."""
     if is_set or processors() < 2 or not keeps_proofs() or free_memory() < ROOM * processors():
         return None
-    found = Trees(tree.place(name="prove-chain"), tree.place(name="prove-low"))
     low = [it for it in crates if LINE not in tree.below(crates, [it])]
-    for place, names in ((found.chain, tree.below(crates, [HEAD])), (found.low, low)):
-        tree.make(TOP, place, names, but=["must-fail"])  # the run of all crates tries these
-    return found
+    made = {"chain": tree.below(crates, [HEAD]), "low": low, "tail": tree.below(crates, [END])}
+    found = {it: tree.place(name=f"prove-{it}") for it in made}
+    for it, names in made.items():
+        tree.make(TOP, found[it], names, but=["must-fail"])  # the run of all crates tries these
+    return Trees(**found)
 
 
 def run(options: argparse.Namespace) -> int:
@@ -238,7 +244,7 @@ def run(options: argparse.Namespace) -> int:
         done = runner.run()
     finally:
         write_times(proofs, of_jobs, runner.done)
-        for it in (trees.chain, trees.low) if trees else ():
+        for it in (trees.chain, trees.low, trees.tail) if trees else ():
             shutil.rmtree(it, ignore_errors=True)
     show.close()
     found = total(done, options.no_skips)

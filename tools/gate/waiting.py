@@ -1,8 +1,13 @@
-"""Waits for an rt ci, whose output goes to a file."""
+"""Waits for an rt ci, whose output goes to a file.
+
+usage: python3 tools/gate/waiting.py LOG CRATE COMMAND [WORD ..]     runs a command once the crate is proved, or rt ci has ended
+"""
 
 from __future__ import annotations
 
+import os
 import re
+import sys
 import time
 from collections.abc import Iterable
 from pathlib import Path
@@ -21,3 +26,8 @@ def wait_for(names: Iterable[str], log: Path, pause: float = 1) -> list[str]:
         if ENDED.search(text):
             break
     return sorted(left)
+
+
+if __name__ == "__main__":
+    wait_for([sys.argv[2]], Path(sys.argv[1]))
+    os.execvp(sys.argv[3], sys.argv[3:])

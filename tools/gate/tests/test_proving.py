@@ -13,7 +13,7 @@ from tools.gate.environment import TOP, lanes, processors
 from tools.gate.jobs import Job
 from tools.gate.proofs import read_crates
 
-TREES = proving.Trees(Path("chain"), Path("low"))
+TREES = proving.Trees(Path("chain"), Path("low"), Path("tail"))
 
 
 class Order(unittest.TestCase):
@@ -22,8 +22,8 @@ class Order(unittest.TestCase):
         return [it for it in proving.every_job(trees, after) if it.part == proving.PROOFS]
 
     def test_the_chain_has_half_of_the_processors_and_as_many_processes_as_rt_gives_a_check(self) -> None:
-        chain, low, proofs = self.runs()
-        self.assertEqual([it.name for it in (chain, low, proofs)], [proving.CHAIN, proving.LOW, proving.PROOFS])
+        chain, low, tail, proofs = self.runs()
+        self.assertEqual([it.name for it in (chain, low, tail, proofs)], [proving.CHAIN, proving.LOW, proving.TAIL, proving.PROOFS])
         self.assertEqual((chain.words[:2], chain.words[3:], chain.folder, chain.env), (("taskset", "-c"), ("rt", "ci"), "chain", {"RT_JOBS": ""}))
         half = subprocess.run([*chain.words[:3], "nproc"], capture_output=True, text=True, check=True)
         self.assertEqual(int(half.stdout), (processors() + 1) // 2)
@@ -33,7 +33,7 @@ class Order(unittest.TestCase):
 
     def test_what_stands_beside_the_chain_waits_for_a_process_if_one_is_named(self) -> None:
         with subprocess.Popen(("sleep", "0.5")) as other:
-            chain, low, _ = self.runs(after=other.pid)
+            chain, low, *_ = self.runs(after=other.pid)
             self.assertEqual((chain.words[-2:], low.words[-2:]), (("rt", "ci"), ("rt", "ci")))
             waits = subprocess.Popen((*low.words[:-2], "echo", "begun"), stdout=subprocess.PIPE, text=True)
             self.assertIsNone(waits.poll())
@@ -52,6 +52,19 @@ class Order(unittest.TestCase):
             low = self.runs(after=os.getpid())[1]
         waits = subprocess.run((*low.words[:-2], "echo", "begun"), capture_output=True, text=True, timeout=60)
         self.assertEqual(waits.stdout, "begun\n")
+
+    def test_the_end_of_the_chain_waits_until_the_chain_is_near_it(self) -> None:
+        tail = self.runs()[2]
+        self.assertEqual((tail.words[-2:], tail.folder, tail.env, tail.cores), (("rt", "ci"), "tail", {"RT_JOBS": ""}, 0))
+        with tempfile.TemporaryDirectory() as room:
+            log = Path(room, "log")
+            log.write_text("rt: vm_attempt proved\n", encoding="utf-8")
+            words = [str(log) if it.endswith("proofs-chain.log") else it for it in tail.words[:-2]]
+            waits = subprocess.Popen((*words, "echo", "begun"), stdout=subprocess.PIPE, text=True, cwd=room)
+            time.sleep(1)
+            self.assertIsNone(waits.poll())
+            log.write_text("rt: vm_attempt proved\nrt: world_rounds proved\n", encoding="utf-8")
+            self.assertEqual(waits.communicate(timeout=60)[0], "begun\n")
 
     def test_all_is_proved_at_once_if_nothing_is_kept(self) -> None:
         for after in (None, os.getpid()):
@@ -75,12 +88,13 @@ class Trees(unittest.TestCase):
         with mock.patch.object(proving, "keeps_proofs", return_value=keeps), mock.patch.object(proving, "free_memory", return_value=free):
             return proving.made_trees(self.crates, is_set=is_set)
 
-    def test_they_have_the_longest_chain_and_what_does_not_stand_on_its_last_part(self) -> None:
+    def test_they_have_the_longest_chain_what_does_not_stand_on_its_last_part_and_its_end(self) -> None:
         found = self.made()
         assert found is not None
-        chain, low = (set(read_crates(it, ())) for it in (found.chain, found.low))
-        self.assertEqual(chain, tree.below(self.crates, [proving.HEAD]))
-        self.assertIn(proving.LINE, chain)
+        chain, low, tail = (set(read_crates(it, ())) for it in (found.chain, found.low, found.tail))
+        self.assertEqual((chain, tail), (tree.below(self.crates, [proving.HEAD]), tree.below(self.crates, [proving.END])))
+        self.assertLess({proving.LINE, proving.NEAR}, chain)
+        self.assertLess(chain, tail)
         self.assertEqual(low, {it for it in self.crates if proving.LINE not in tree.below(self.crates, [it])})
         self.assertEqual(list(self.room.glob("*/crates/*/must-fail")), [])
 
@@ -88,11 +102,6 @@ class Trees(unittest.TestCase):
         for more in ({"keeps": False}, {"free": 1 << 20}, {"is_set": True}):
             self.assertIsNone(self.made(**more))  # type: ignore[arg-type]
         self.assertEqual(list(self.room.iterdir()), [])
-
-    def test_the_chain_and_what_it_begins_with_are_urgent(self) -> None:
-        found = proving.urgent(self.crates)
-        self.assertLessEqual({"plain", "journal_messages", "vm_machine", "engines"}, found)
-        self.assertFalse({"lines", "call_lines", "ffi"} & found)
 
 
 if __name__ == "__main__":
