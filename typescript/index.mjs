@@ -23,6 +23,7 @@ export const {
   SharedWorkflowContext,
   TerminalError,
   TimedOut,
+  Unavailable,
   Unreadable,
   Unsuitable,
   Worker,

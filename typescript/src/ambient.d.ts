@@ -69,6 +69,7 @@ declare module 'pg' {
   export class Client {
     constructor(config: Config);
     processID: number | null;
+    readonly connection: { readonly stream: { readonly destroyed: boolean; destroy(error?: Error): void } };
     connect(): Promise<void>;
     query(query: Query | string): Promise<Result>;
     end(): Promise<void>;

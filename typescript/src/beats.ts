@@ -6,6 +6,7 @@
 import { parentPort, workerData } from 'node:worker_threads';
 import { Client } from 'pg';
 import { configOf } from './database';
+import { part } from './parting';
 import { STATEMENTS } from './statements';
 
 /** What the thread is given. Times are in milliseconds. */
@@ -26,36 +27,61 @@ const AGAIN = `INSERT INTO workers(id, lease) VALUES ($1::text, extract(epoch fr
 
 function begin(data: BeatsData, say: (word: BeatsWord) => void): () => void {
   const seconds = data.lease / 1000;
+  const patience = Math.max(2000, data.lease / 3);
   const { text, names } = STATEMENTS.beat[0];
   const values: Record<string, unknown> = { worker: data.worker, lease: seconds };
   let client: Client | undefined;
   let isOver = false;
   let isBusy = false;
 
+  /** Statements of a connection, which ends if the server doesn't reply. */
+  async function answered(by: Client, does: () => Promise<void>): Promise<void> {
+    const late = setTimeout(() => by.connection.stream.destroy(new Error(`the server hasn't replied for ${patience} ms`)), patience);
+    try {
+      await does();
+    } finally {
+      clearTimeout(late);
+    }
+  }
+
   async function connected(): Promise<Client> {
-    const made = new Client({ ...configOf(data.url), connectionTimeoutMillis: Math.max(2000, data.lease / 3) });
+    const made = new Client({ ...configOf(data.url), connectionTimeoutMillis: patience });
     made.on('error', () => {
-      client = undefined;
+      if (client === made) client = undefined;
     });
-    await made.connect();
-    for (const it of STATEMENTS.session) await made.query(it.text);
-    await made.query(`SET statement_timeout=${Math.ceil(data.lease / 3)}`);
-    return made;
+    try {
+      await made.connect();
+      await answered(made, async () => {
+        for (const it of STATEMENTS.session) await made.query(it.text);
+        await made.query(`SET statement_timeout=${Math.ceil(data.lease / 3)}`);
+      });
+      return made;
+    } catch (error) {
+      void part(made);
+      throw error;
+    }
+  }
+
+  async function stored(): Promise<void> {
+    const by = (client ??= await connected());
+    await answered(by, async () => {
+      const done = await by.query({ text, values: names.map((it) => values[it]) });
+      if (done.rowCount === 0 && !isOver) await by.query({ text: AGAIN, values: [data.worker, seconds] }); // it was thought dead
+    });
+    if (isOver) void part(by);
   }
 
   async function beat(): Promise<void> {
     if (isBusy || isOver) return;
     isBusy = true;
     try {
-      client ??= await connected();
-      const done = await client.query({ text, values: names.map((it) => values[it]) });
-      if (done.rowCount === 0 && !isOver) await client.query({ text: AGAIN, values: [data.worker, seconds] }); // it was thought dead
+      await stored();
       say({ beat: true });
     } catch (error) {
       const broken = client;
       client = undefined;
-      broken?.end().catch(() => undefined);
-      say({ failed: error instanceof Error ? error.message : 'no text' });
+      if (broken !== undefined) void part(broken);
+      if (!isOver) say({ failed: error instanceof Error ? error.message : 'no text' });
     } finally {
       isBusy = false;
     }
@@ -78,7 +104,7 @@ function begin(data: BeatsData, say: (word: BeatsWord) => void): () => void {
     isOver = true;
     clearInterval(beats);
     clearInterval(watches);
-    client?.end().catch(() => undefined);
+    if (client !== undefined) void part(client);
   };
 }
 

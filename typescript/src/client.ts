@@ -3,9 +3,10 @@
 import { randomBytes } from 'node:crypto';
 import { frames } from 'palqytun';
 import { CHANNEL } from './database';
+import { Lost } from './tables';
 import type { Ends, Place, Statements, Store } from './tables';
 import { deliver, newest, send } from './delivery';
-import { BadValue, TerminalError } from './errors';
+import { BadValue, TerminalError, Unavailable } from './errors';
 import { CANCEL, VOID, awakeableOf, failure, failureIn, valueIn } from './frames';
 import { checkedTrace } from './hash';
 import { create } from './invocations';
@@ -41,6 +42,7 @@ export interface ClientCall extends Queued {
 
 const LOOK = 1000; // milliseconds between two looks for a result
 const CONNECTIONS = 4;
+const ANSWERED = 30_000; // milliseconds that a call waits for its transaction
 
 /** An invocation, as its client knows it. */
 export class Sent<O> {
@@ -64,29 +66,80 @@ export class Sent<O> {
 
 export class Client {
   readonly #heard = new Map<string, Set<() => void>>();
+  #place: Place | undefined;
   #hearing: Ends | undefined;
+  #isLost = false;
+  #isClosed = false;
+  #opening: Promise<void> | undefined;
 
   /** @internal */
-  protected constructor(private readonly db: Store, readonly services: ReadonlyMap<string, About>, private readonly payload: number, readonly codec: Codec) {}
+  protected constructor(private db: Store, readonly services: ReadonlyMap<string, About>, private readonly payload: number, readonly codec: Codec) {}
 
   /** Connects to a database, which has the tables of Palqytun. */
   static async connect({ url, services = [], payload = PAYLOAD, codec = JSON_CODEC }: ClientOptions): Promise<Client> {
     const place = new Postgres(url, new Log());
-    const found = new Client(await place.open(CONNECTIONS), servicesOf(services), payload, codec);
-    await found.#hearsBy(place);
+    const served = servicesOf(services);
+    const found = new Client(await place.open(CONNECTIONS), served, payload, codec);
+    await found.#uses(place, found.db);
     return found;
   }
 
-  async #hearsBy(place: Place): Promise<void> {
-    this.#hearing = await place.hears(CHANNEL, this.db, (word) => {
-      const [what, ...ids] = word.split(' ');
-      if (what === 'ended') for (const id of ids) for (const it of this.#heard.get(id) ?? []) it();
+  /** Uses a database that was opened. */
+  async #uses(place: Place, db: Store): Promise<void> {
+    [this.#place, this.db, this.#isLost] = [place, db, false];
+    db.onLost = () => (this.#isLost = true);
+    try {
+      this.#hearing = await place.hears(CHANNEL, db, (word) => this.#hear(word));
+    } catch (error) {
+      this.#isLost = true;
+      await db.close();
+      throw error;
+    }
+    if (this.#isClosed) await this.close();
+  }
+
+  #hear(word: string): void {
+    const [what, ...ids] = word.split(' ');
+    if (what === 'ended') for (const id of ids) for (const it of this.#heard.get(id) ?? []) it();
+  }
+
+  /** Opens a database again that was lost. */
+  async #opens(place: Place): Promise<void> {
+    const [db, hearing] = [this.db, this.#hearing];
+    this.#hearing = undefined;
+    await Promise.all([hearing?.end(), db.close()]);
+    await this.#uses(place, await place.open(CONNECTIONS));
+  }
+
+  /** The database, which is opened again if it was lost. */
+  async #opened(): Promise<Store> {
+    if (this.#isClosed) throw new Lost('the client is closed');
+    if (this.#isLost && this.#place !== undefined) {
+      this.#opening ??= this.#opens(this.#place).finally(() => (this.#opening = undefined));
+      await this.#opening;
+    }
+    return this.db;
+  }
+
+  /** Commits an operation. Throws `Unavailable` if the database can't be used, or doesn't reply for too long. */
+  async #transact<T>(operation: (to: Statements) => Promise<T>): Promise<T> {
+    let timer: Timer | undefined;
+    const late = new Promise<never>((_, reject) => {
+      timer = setTimeout(() => reject(new Unavailable(`something has been in the way in the database for ${ANSWERED} ms`)), ANSWERED);
     });
+    try {
+      return await Promise.race([this.#opened().then((db) => db.transact(operation)), late]);
+    } catch (error) {
+      if (error instanceof Lost) throw new Unavailable(`the database can't be used now: ${error.message}`);
+      throw error;
+    } finally {
+      clearTimeout(timer);
+    }
   }
 
   async close(): Promise<void> {
-    await this.#hearing?.end();
-    await this.db.close();
+    this.#isClosed = true;
+    await Promise.all([this.#hearing?.end(), this.db.close()]);
   }
 
   /** Calls a handler, or `"Service/handler"`, and doesn't wait for it. */
@@ -101,7 +154,7 @@ export class Client {
     checkName('the key', options.key ?? '');
     checkName('the idempotency key', options.idempotencyKey ?? '');
     const [headers, trace] = [withQueue(options.headers, options), checkedTrace(options.headers?.['traceparent'])];
-    const { id } = await this.db.transact((to) =>
+    const { id } = await this.#transact((to) =>
       create(to, this, {
         ...this.named(), service, handler, key: options.key ?? '', argument: data, headers, idempotencyKey: options.idempotencyKey ?? null,
         due: options.delay === undefined ? null : to.now + options.delay / 1000, parent: null, trace,
@@ -131,7 +184,7 @@ export class Client {
   async resolveAwakeable(id: string, value: unknown = null): Promise<void> {
     const found = awakeableOf(id);
     if (found === undefined) throw new TerminalError(`${id.slice(0, 200)} is no awakeable`, 400);
-    await this.db.transact((to) => deliver(to, found.invocation, frames.signal(found.signal, this.resultOf(value))));
+    await this.#transact((to) => deliver(to, found.invocation, frames.signal(found.signal, this.resultOf(value))));
   }
 
   /** A value, or a failure, as a frame. @internal */
@@ -144,7 +197,7 @@ export class Client {
   /** @internal */
   async signal(id: string, frame: Uint8Array): Promise<void> {
     checkId(id);
-    await this.db.transact((to) => send(to, id, frame));
+    await this.#transact((to) => send(to, id, frame));
   }
 
   /** @internal */
@@ -171,7 +224,7 @@ export class Client {
   /** The result of one that has ended, as a frame. @internal */
   async look(id: string): Promise<Uint8Array | undefined> {
     checkId(id);
-    return this.db.transact((to) => looked(to, id));
+    return this.#transact((to) => looked(to, id));
   }
 
   /** Hears that an invocation has ended. */

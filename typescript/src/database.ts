@@ -9,6 +9,7 @@ import { parse } from 'pg-connection-string';
 import { Unsuitable, said } from './errors';
 import type { Log } from './log';
 import type { Note } from './notes';
+import { part } from './parting';
 import { STATEMENTS, VERSION } from './statements';
 import type { StatementName } from './statements';
 import { Lost } from './tables';
@@ -26,20 +27,31 @@ const SETTINGS = {
   enable_seqscan: 'off', // a plan that was made when a table was small is kept when it is large
   jit: 'off',
 };
-/** A deadlock, a conflict of snapshots, and a lock that was waited for long enough. */
-const IN_THE_WAY = new Set(['40P01', '40001', '55P03']);
+/** A deadlock, a conflict of snapshots, a lock that was waited for long enough, a statement that was cancelled, a server that only reads, and its disk. */
+const IN_THE_WAY = new Set(['40P01', '40001', '55P03', '57014', '25006', '58030']);
+const SCARCE = /^53/; // what the server lacks, as room on its disk
+const FULL = '53100';
+const TOO_LARGE = '53200'; // of these, one for want of memory: by the statement's own size, except for locks
 /** Classes of errors that end a connection, or the server. */
 const LOST = /^(08|57P|53300)/;
 const LONGEST_WAIT = 1000; // milliseconds between two tries of an operation
 const PATIENCE = 10_000; // milliseconds that a connection may take to be made
+const LAST = 2000; // milliseconds in which transactions may end once their database is closed
 const TRIED = new Set([20, 200, 2000]);
+const SAID = 10_000; // milliseconds between two warnings of a full disk
 
 /** A statement that can't be made. */
 export class StatementFailed extends Error {
   override readonly name = 'StatementFailed';
 
-  constructor(message: string, readonly code: string) {
+  constructor(message: string, readonly code: string, private readonly routine = '') {
     super(message);
+  }
+
+  /** Whether something is in the way now, so that the same can be done later. */
+  get isInTheWay(): boolean {
+    if (this.code === TOO_LARGE) return this.routine.includes('Lock'); // the server's function that takes locks has it in its name
+    return IN_THE_WAY.has(this.code) || SCARCE.test(this.code);
   }
 }
 
@@ -62,32 +74,40 @@ export function configOf(url: string): Config {
 }
 
 function failed(error: unknown): Error {
-  const code: unknown = (error as { code?: unknown } | null)?.code;
+  const { code, routine } = (error ?? {}) as { code?: unknown; routine?: unknown };
   const text = said(error).replace(/^error: /, '');
   if (typeof code !== 'string' || !/^[0-9A-Z]{5}$/.test(code) || LOST.test(code)) return new Lost(text);
-  return new StatementFailed(text, code);
+  return new StatementFailed(text, code, String(routine));
+}
+
+function after(milliseconds: number): Promise<void> {
+  return new Promise((done) => setTimeout(done, milliseconds));
 }
 
 /** One connection, whose statements are prepared once. */
 class Connection {
+  readonly client: Client;
   isBroken = false;
 
-  private constructor(readonly client: Client) {}
-
-  static async made(config: Config): Promise<Connection> {
-    const client = new Client(config);
-    const found = new Connection(client);
-    client.on('error', () => {
-      found.isBroken = true;
+  constructor(config: Config) {
+    this.client = new Client(config);
+    this.client.on('error', () => {
+      this.isBroken = true;
     });
+  }
+
+  /** Connects, with the settings of a session. */
+  async begin(): Promise<void> {
+    const late = setTimeout(() => this.cut(`the server hasn't replied for ${PATIENCE} ms`), PATIENCE);
     try {
-      await client.connect();
-      await found.made('session', {});
-      for (const [name, value] of Object.entries(SETTINGS)) await found.query(`SET ${name}='${value}'`);
-      return found;
+      await this.client.connect();
+      await this.made('session', {});
+      for (const [name, value] of Object.entries(SETTINGS)) await this.query(`SET ${name}='${value}'`);
     } catch (error) {
-      found.close();
+      this.close();
       throw error instanceof Lost || error instanceof StatementFailed ? error : failed(error);
+    } finally {
+      clearTimeout(late);
     }
   }
 
@@ -115,7 +135,12 @@ class Connection {
 
   close(): void {
     this.isBroken = true;
-    this.client.end().catch(() => undefined);
+    void part(this.client);
+  }
+
+  /** Ends it at once, and what waits for it with this error. */
+  cut(why: string): void {
+    this.client.connection.stream.destroy(new Error(why));
   }
 }
 
@@ -188,11 +213,12 @@ export class Transaction implements Statements, Committed {
 /** Transactions over a database. */
 export class Database implements Store {
   readonly #idle: Connection[] = [];
-  readonly #waiting: ((connection: Connection | Lost) => void)[] = [];
+  readonly #waiting: ((connection?: Connection) => void)[] = []; // without one, it looks again
   readonly #all = new Set<Connection>();
-  #making = 0;
+  readonly #making = new Set<Connection>();
   #clock = 0; // the server's time, in seconds, at 0 of the monotonic clock
   #lost: Lost | undefined;
+  #fullSaid = -SAID;
   committed: Store['committed'] = () => undefined;
   told: Store['told'] = () => undefined;
   onLost: Store['onLost'] = () => undefined;
@@ -202,12 +228,15 @@ export class Database implements Store {
   /** A database of this protocol's version. What is wrong with it is `Unsuitable`, in one line; one that can't be reached is `Lost`. */
   static async open(url: string, most: number, log: Log): Promise<Database> {
     const found = new Database(configOf(url), most, log);
+    const late = setTimeout(() => found.#all.forEach((it) => it.cut(`the server hasn't replied for ${PATIENCE} ms`)), 2 * PATIENCE);
     try {
       await found.#checked();
       await found.transact((to) => found.#ask(to));
     } catch (error) {
       await found.close();
       throw error;
+    } finally {
+      clearTimeout(late);
     }
     return found;
   }
@@ -262,28 +291,38 @@ export class Database implements Store {
   }
 
   async #taken(): Promise<Connection> {
-    if (this.#lost !== undefined) throw this.#lost;
-    const idle = this.#idle.pop();
-    if (idle !== undefined) return idle;
-    if (this.#all.size + this.#making < this.most) {
-      this.#making += 1;
-      try {
-        const made = await Connection.made(this.config);
-        this.#all.add(made);
-        return made;
-      } finally {
-        this.#making -= 1;
-      }
+    for (;;) {
+      if (this.#lost !== undefined) throw this.#lost;
+      const idle = this.#idle.pop();
+      if (idle !== undefined) return idle;
+      if (this.#all.size + this.#making.size < this.most) return this.#made();
+      const came = await new Promise<Connection | undefined>((resolve) => this.#waiting.push(resolve));
+      if (came !== undefined) return came;
     }
-    const came = await new Promise<Connection | Lost>((resolve) => this.#waiting.push(resolve));
-    if (came instanceof Lost) throw came;
-    return came;
+  }
+
+  async #made(): Promise<Connection> {
+    const made = new Connection(this.config);
+    this.#making.add(made);
+    try {
+      await made.begin();
+      this.#all.add(made);
+      if (this.#lost === undefined) return made;
+      this.#give(made);
+      throw this.#lost;
+    } catch (error) {
+      this.#waiting.shift()?.(); // there is room for one that it makes
+      throw error;
+    } finally {
+      this.#making.delete(made);
+    }
   }
 
   #give(connection: Connection): void {
     if (connection.isBroken || this.#lost !== undefined) {
       this.#all.delete(connection);
       connection.close();
+      this.#waiting.shift()?.(); // there is room for one that it makes
       return;
     }
     const next = this.#waiting.shift();
@@ -294,15 +333,20 @@ export class Database implements Store {
   #isLost(lost: Lost): void {
     if (this.#lost !== undefined) return;
     this.#lost = lost;
-    for (const it of this.#waiting.splice(0)) it(lost);
+    for (const it of this.#waiting.splice(0)) it();
     this.onLost(lost);
   }
 
+  /** What is in use has a moment in which it may come back. Then all connections have ended. */
   async close(): Promise<void> {
+    const all = [...this.#all];
     this.#lost ??= new Lost('the database is closed');
-    for (const it of this.#waiting.splice(0)) it(this.#lost);
-    const ended = this.#idle.splice(0).map((it) => it.client.end().catch(() => undefined));
-    await Promise.race([Promise.all(ended), new Promise<void>((done) => setTimeout(done, 2000).unref())]);
+    for (const it of this.#waiting.splice(0)) it();
+    for (const it of this.#making) it.cut('the database is closed');
+    for (const it of this.#idle.splice(0)) this.#give(it);
+    const until = performance.now() + LAST;
+    while (this.#all.size > 0 && performance.now() < until) await after(5);
+    await Promise.all(all.map((it) => part(it.client)));
   }
 
   // ---- transactions
@@ -312,11 +356,18 @@ export class Database implements Store {
       try {
         return await this.#once(operation, isSingle);
       } catch (error) {
-        if (!(error instanceof StatementFailed) || !IN_THE_WAY.has(error.code)) throw error;
-        if (TRIED.has(tries)) this.log.warning(`something is in the way of an operation, which was tried ${tries} times: ${error.message}`);
+        if (!(error instanceof StatementFailed) || !error.isInTheWay) throw error;
+        if (error.code === FULL) this.#isFull(error);
+        else if (TRIED.has(tries)) this.log.warning(`something is in the way of an operation, which was tried ${tries} times: ${error.message}`);
       }
-      await new Promise<void>((done) => setTimeout(done, Math.random() * Math.min(LONGEST_WAIT, 20 * tries)));
+      await after(Math.random() * Math.min(LONGEST_WAIT, 20 * tries));
     }
+  }
+
+  #isFull(error: StatementFailed): void {
+    if (performance.now() < this.#fullSaid + SAID) return;
+    this.#fullSaid = performance.now();
+    this.log.warning(`the database's disk is full; what is to be stored waits until there is room: ${error.message}`);
   }
 
   async #once<T>(operation: (to: Statements) => Promise<T>, isSingle: boolean): Promise<T> {

@@ -30,6 +30,15 @@ export class BadName extends TerminalError {
   }
 }
 
+/**
+ * The database can't be used now. Whether the call was stored isn't known: ask again, with an idempotency key. Its code is 503.
+ */
+export class Unavailable extends TerminalError {
+  constructor(why: string) {
+    super(why, 503);
+  }
+}
+
 /** The invocation was cancelled. What the handler does then, as undoing what it did, is its own. */
 export class Cancelled extends TerminalError {
   constructor(message = 'cancelled') {

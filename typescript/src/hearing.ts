@@ -4,11 +4,11 @@ import { Client as Connection } from 'pg';
 import { CHANNEL, channelOf, configOf } from './database';
 import { said } from './errors';
 import type { Log } from './log';
+import { part } from './parting';
 import { Lost } from './tables';
 import type { Ends } from './tables';
 
 const AGAIN = 500; // milliseconds until a connection that is lost is made again
-const LAST = 1000; // milliseconds that its end may take
 
 function after(milliseconds: number): Promise<void> {
   return new Promise((done) => setTimeout(done, milliseconds));
@@ -38,12 +38,14 @@ export class Hearing implements Ends {
     return found;
   }
 
+  /** Makes a connection that hears. One that comes too late, or that isn't whole, is ended: nobody else would. */
   async #listen(): Promise<void> {
     const client = new Connection(configOf(this.url));
-    let isLost = false;
+    let isBroken = false;
     const lost = (): void => {
-      if (isLost || this.#isOver) return;
-      isLost = true;
+      isBroken = true;
+      if (this.#client !== client) return; // whoever makes it sees that
+      this.#client = undefined;
       this.log.warning('notifications have ended, and are asked for again');
       void this.#again();
     };
@@ -52,26 +54,35 @@ export class Hearing implements Ends {
     client.on('notification', (it) => {
       if (!this.own().has(it.processId)) this.heard(it.payload ?? '');
     });
-    await client.connect();
-    for (const channel of this.channels) await client.query(`LISTEN "${channel}"`);
-    this.#client = client;
+    try {
+      await client.connect();
+      for (const channel of this.channels) await client.query(`LISTEN "${channel}"`);
+      if (isBroken) throw new Error('the connection has ended');
+    } catch (error) {
+      void part(client);
+      throw error;
+    }
+    if (this.#isOver) void part(client);
+    else this.#client = client;
   }
 
   async #again(): Promise<void> {
-    while (!this.#isOver) {
+    while (!this.#isOver && this.#client === undefined) {
       await after(AGAIN);
+      if (this.#isOver) return;
       try {
-        if (!this.#isOver) await this.#listen();
-        this.heard('ready');
-        return;
+        await this.#listen();
       } catch {
         continue; // it is tried again
       }
+      if (!this.#isOver) this.heard('ready');
     }
   }
 
   async end(): Promise<void> {
     this.#isOver = true;
-    await Promise.race([this.#client?.end().catch(() => undefined), after(LAST)]);
+    const client = this.#client;
+    this.#client = undefined;
+    if (client !== undefined) await part(client);
   }
 }

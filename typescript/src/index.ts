@@ -5,7 +5,7 @@ export type { ClientCall, ClientOptions } from './client';
 export { Context, ObjectContext, ServiceContext, SharedObjectContext, SharedWorkflowContext, WorkflowContext } from './context';
 export type { CallOptions, ReplayLog, Run, RunOptions, SendOptions, WorkflowPromise } from './context';
 export { Call, Durable, all, allSettled, any, race, select } from './durable';
-export { BadName, BadValue, Cancelled, NotDurable, OutsideHandler, TerminalError, TimedOut, Unsuitable } from './errors';
+export { BadName, BadValue, Cancelled, NotDurable, OutsideHandler, TerminalError, TimedOut, Unavailable, Unsuitable } from './errors';
 export { GivenUp } from './heartbeats';
 export { Log } from './log';
 export type { Fields, Level, LogOptions } from './log';

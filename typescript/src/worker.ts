@@ -101,6 +101,14 @@ export interface Inside {
   readonly instead?: Host['instead'];
 }
 
+/** What a session has beside its connections, until it is over. */
+interface Session {
+  isOver: boolean;
+  lost?: Lost;
+  hears?: Ends;
+  beats?: Ends;
+}
+
 /** A worker of some services. */
 export class Worker implements Host {
   readonly meter = new Meter();
@@ -119,6 +127,7 @@ export class Worker implements Host {
   #former = '';
   #lookAt = 0;
   #wakeUp: () => void = () => undefined;
+  #giveUp: () => void = () => undefined;
   #hasMore = false;
   #hasCome = false; // for an invocation that has no attempt here
   #dueAt = 0; // when something is due first, in seconds since the epoch
@@ -268,6 +277,7 @@ export class Worker implements Host {
   stop(): void {
     this.#isStopping = true;
     this.#wakeUp();
+    setTimeout(() => this.#giveUp(), LAST).unref();
     for (const it of this.#live.values()) it.ring();
   }
 
@@ -279,30 +289,40 @@ export class Worker implements Host {
   /** As long as the database can be used. Each session is a worker of its own, so what an earlier one left is claimed like any other's. */
   async #session(): Promise<void> {
     const db = await this.#place.open(this.#options.connections);
+    const session: Session = { isOver: false };
     const claimer: Claimer = { worker: `${this.#options.name}-${randomBytes(6).toString('hex')}`, code: this.version, services: this.#services, codec: this.codec, suspected: 0 };
-    let lost: Lost | undefined;
-    let hears: Ends | undefined;
-    let beats: Ends | undefined;
     db.onLost = (error) => {
-      lost = error;
+      session.lost = error;
       this.#wakeUp();
     };
     db.told = (it) => this.#told(it);
     db.committed = (milliseconds) => this.meter.committed(milliseconds / 1000);
     try {
-      await this.#enter(db, claimer);
-      this.#db = db;
-      this.#lastBeat = performance.now();
-      beats = this.#place.beats(claimer.worker, () => (this.#lastBeat = performance.now()));
-      hears = await this.#place.hears(claimer.worker, db, (word) => this.#heard(word));
-      this.meter.count('sessions');
-      this.#opened();
-      while (!this.drains && lost === undefined) await this.#look(db, claimer);
-      if (lost === undefined) await this.#drain();
-      if (lost !== undefined) throw lost;
+      await this.#unlessStopped(this.#opens(db, claimer, session));
+      while (!this.drains && session.lost === undefined) await this.#unlessStopped(this.#look(db, claimer));
+      if (session.lost === undefined) await this.#drain();
+      if (session.lost !== undefined) throw session.lost;
     } finally {
-      await this.#leave(db, claimer, lost === undefined, hears, beats);
+      session.isOver = true;
+      await this.#leave(db, claimer, session);
     }
+  }
+
+  /** For this, and after `stop` for a moment only: the database may not reply. */
+  async #unlessStopped(awaited: Promise<void>): Promise<void> {
+    await Promise.race([awaited, new Promise<void>((done) => (this.#giveUp = done))]);
+  }
+
+  async #opens(db: Store, claimer: Claimer, session: Session): Promise<void> {
+    await this.#enter(db, claimer);
+    if (session.isOver) return;
+    this.#db = db;
+    this.#lastBeat = performance.now();
+    session.beats = this.#place.beats(claimer.worker, () => (this.#lastBeat = performance.now()));
+    session.hears = await this.#place.hears(claimer.worker, db, (word) => this.#heard(word));
+    if (session.isOver) return session.hears.end();
+    this.meter.count('sessions');
+    this.#opened();
   }
 
   async #enter(db: Store, claimer: Claimer): Promise<void> {
@@ -317,13 +337,13 @@ export class Worker implements Host {
   }
 
   /** The session ends: what the grace wasn't enough for is given back, if the database is there. */
-  async #leave(db: Store, claimer: Claimer, isThere: boolean, hears: Ends | undefined, beats: Ends | undefined): Promise<void> {
+  async #leave(db: Store, claimer: Claimer, { lost, hears, beats }: Session): Promise<void> {
     const left = [...this.#live.values()];
     for (const it of left) it.stop();
     const until = performance.now() + LAST;
     while (this.#live.size > 0 && performance.now() < until) await after(5);
     this.#live.clear();
-    if (isThere) {
+    if (lost === undefined) {
       if (left.length > 0) this.log.warning(`${left.length} attempts are given back before they ended, as ${left[0]?.claim.id ?? ''}`);
       await within('to leave', this.log, db.transact(async (to) => {
         for (const it of left) await release(to, it.claim);
@@ -364,6 +384,10 @@ export class Worker implements Host {
       if (!(error instanceof StatementFailed)) throw error;
       this.log.warning(`a claim wasn't made, and is made again: ${error.message}`);
       return this.#pause(1000);
+    }
+    if (this.#db !== db) { // it came too late
+      for (const it of found.claims) it.journal.close();
+      return;
     }
     this.#looked(found);
     if (found.nextDue !== null && room > 0) this.#wakeAt(found.nextDue);

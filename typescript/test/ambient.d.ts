@@ -25,6 +25,26 @@ declare module 'node:fs' {
   export function readFileSync(file: string, encoding: 'utf8'): string;
 }
 
+declare module 'node:net' {
+  interface Socket {
+    readonly remotePort: number;
+    on(event: 'data', heard: (data: Buffer) => void): Socket;
+    on(event: 'error' | 'close', heard: () => void): Socket;
+    write(data: Uint8Array): boolean;
+    pause(): void;
+    resume(): void;
+    destroy(): void;
+  }
+  interface Server {
+    listen(port: number, host: string, done: () => void): void;
+    address(): { port: number };
+    close(): void;
+  }
+  export function connect(path: string): Socket;
+  export function connect(port: number, host: string): Socket;
+  export function createServer(serves: (client: Socket) => void): Server;
+}
+
 declare module 'node:child_process' {
   interface ChildProcess {
     readonly stderr: { on(event: 'data', heard: (data: Buffer) => void): void };

@@ -1,5 +1,6 @@
 // What the tests of the worker stand on: the database of PALQYTUN_TEST_POSTGRES, which has its tables, and workers and clients on it.
 
+import { after } from 'node:test';
 import { Client, Worker } from '@palqytun/sdk';
 import type { AnyService, WorkerOptions } from '@palqytun/sdk';
 import { Client as Connection } from 'pg';
@@ -8,6 +9,18 @@ import { STATEMENTS } from '../statements';
 
 export const URL = process.env['PALQYTUN_TEST_POSTGRES'] ?? '';
 export const LONG = 300_000; // milliseconds after which a test that waits has failed, however busy its host is
+
+const LEFT = 60_000; // milliseconds in which the process of a file ends by itself, once its tests have ended
+
+/** A process that something keeps open fails, and says what that is. */
+after(() => {
+  const late = (): never => {
+    const open = (process as unknown as { getActiveResourcesInfo(): string[] }).getActiveResourcesInfo();
+    process.stderr.write(`the tests have ended, and their process is kept open by ${open.join(', ')}\n`);
+    return process.exit(1);
+  };
+  setTimeout(late, LEFT).unref();
+});
 
 export interface Stage {
   readonly worker: Worker;
@@ -23,16 +36,18 @@ export async function stage(services: readonly AnyService[], options: Partial<Wo
   const log = { format: 'json' as const, write: (line: string) => void lines.push(JSON.parse(line) as Record<string, unknown>) };
   const worker = new Worker({ url: URL, services, idle: 200, poll: 500, lease: LONG, log, ...options });
   const running = worker.run();
-  await Promise.race([worker.isOpen, running]);
-  const client = await Client.connect({ url: URL, services, ...(options.codec === undefined ? {} : { codec: options.codec }) });
-  return {
-    worker, client, lines,
-    end: async () => {
-      await client.close();
-      worker.stop();
-      await running;
-    },
-  }; // prettier-ignore
+  const ends = async (): Promise<void> => {
+    worker.stop();
+    await running;
+  };
+  try {
+    await Promise.race([worker.isOpen, running]);
+    const client = await Client.connect({ url: URL, services, ...(options.codec === undefined ? {} : { codec: options.codec }) });
+    return { worker, client, lines, end: () => client.close().finally(ends) };
+  } catch (error) {
+    await ends();
+    throw error;
+  }
 }
 
 /** Waits until something is so. */

@@ -135,7 +135,7 @@ test('a rate holds over what has begun, and limits over all workers', { timeout:
       await until(async () => (await running(path)) === most);
       for (const worker of [on, other]) assert.equal(await worker.client.call(work.free, 2), 2);
       assert.equal(await running(path), most);
-      const opens = setInterval(open, 20);
+      const opens = setInterval(open, 20).unref(); // also if this fails, its process can end
       for (const it of made) await it.result(LONG);
       clearInterval(opens);
     }

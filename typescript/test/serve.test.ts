@@ -27,6 +27,8 @@ async function program(url: string, does: (it: Program) => Promise<void>): Promi
     for (const it of parts) lines.push(JSON.parse(it) as Record<string, unknown>);
   });
   const ended = new Promise<number | null>((done) => child.on('close', done));
+  const kill = (): void => void child.kill('SIGKILL');
+  process.on('exit', kill);
   const message = (text: string): string | undefined => lines.map((it) => String(it['message'])).find((it) => it.includes(text));
   const says = async (text: string): Promise<string> => {
     await until(() => message(text) !== undefined);
@@ -35,8 +37,9 @@ async function program(url: string, does: (it: Program) => Promise<void>): Promi
   try {
     await does({ child, lines, says, ended });
   } finally {
-    child.kill('SIGKILL');
+    kill();
     await ended;
+    process.off('exit', kill);
   }
 }
 
