@@ -223,10 +223,11 @@ async function mayGoOn(to: Statements, claimer: Claimer, service: string, row: R
     note('paused', error);
     return false;
   }
+  if (lost >= SUSPECT) {
+    if (to.now < claimer.suspected + ALONE) return false;
+    claimer.suspected = to.now;
+  }
   note('attempt lost', `its worker ${worker} isn't alive`);
-  if (lost < SUSPECT) return true;
-  if (to.now < claimer.suspected + ALONE) return false;
-  claimer.suspected = to.now;
   return true;
 }
 

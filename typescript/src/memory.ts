@@ -451,7 +451,9 @@ const STATEMENTS: Readonly<Record<Exclude<StatementName, 'now'>, Does>> = {
   },
   orphaned: (to, it) => {
     const lost = to.candidates(it, 'running').filter((one) => !to.workers.has(one.worker ?? ''));
-    return rows(byDue(lost).slice(0, it.most).map((one) => candidate(one, one.due, one.deaths, one.handler, one.worker)));
+    const areAlone = (one: Invocation): boolean => one.deaths >= 1 && one.deaths <= 3;
+    const inTurn = [...byDue(lost).filter((one) => !areAlone(one)), ...byDue(lost).filter(areAlone)];
+    return rows(inTurn.slice(0, it.most).map((one) => candidate(one, one.due, one.deaths, one.handler, one.worker)));
   },
   deadly: (to, it) => changed(to.set(it.id, isHeld(it), (one) => ({ status: 'paused', deaths: one.deaths + 1, error: it.error }))),
   lock: (to, it) => {

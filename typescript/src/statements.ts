@@ -95,7 +95,7 @@ export const STATEMENTS = {
     { text: "UPDATE inbox SET fresh=0 WHERE invocation=$1::text AND seq=ANY($2::bigint[])", names: ["id", "seqs"] },
   ],
   'orphaned': [
-    { text: "SELECT id, epoch, exclusive, key, due, deaths, handler, worker FROM invocations WHERE service=$1::text AND handler=ANY($2::text[]) AND (code IS NULL OR code=$3::text) AND status='running' AND worker NOT IN (SELECT id FROM workers WHERE lease>=extract(epoch from clock_timestamp())::float8) ORDER BY due, seq LIMIT $4::integer FOR UPDATE SKIP LOCKED", names: ["service", "handlers", "code", "most"] },
+    { text: "SELECT id, epoch, exclusive, key, due, deaths, handler, worker FROM invocations WHERE service=$1::text AND handler=ANY($2::text[]) AND (code IS NULL OR code=$3::text) AND status='running' AND worker NOT IN (SELECT id FROM workers WHERE lease>=extract(epoch from clock_timestamp())::float8) ORDER BY deaths BETWEEN 1 AND 3, due, seq LIMIT $4::integer FOR UPDATE SKIP LOCKED", names: ["service", "handlers", "code", "most"] },
   ],
   'deadly': [
     { text: "UPDATE invocations SET status='paused', stopped=$1::float8, how='lost', deaths=deaths+1, error=$2::text WHERE id=$3::text AND epoch=$4::bigint AND status='running'", names: ["now", "error", "id", "epoch"] },

@@ -6,6 +6,7 @@ import { frames } from 'palqytun';
 import { Queue, Worker, all, handler, main, race, service, workflow } from '@palqytun/sdk';
 import type { AnyService, ServiceContext, SharedWorkflowContext, WorkerOptions, WorkflowContext } from '@palqytun/sdk';
 import { LONG, asked, stage, until } from './cluster';
+import { look } from '../claiming';
 import { create } from '../invocations';
 import { Memory } from '../memory';
 import { JSON_CODEC } from '../sealing';
@@ -139,6 +140,29 @@ test('what a worker had that is lost goes on by its age, among what is ready', {
     const pairs = [0, 2, 4, 6, 8].map((at) => seen.slice(at, at + 2).sort()); // two run side by side
     assert.deepEqual(pairs.flat(), [1, 2, 3, 4, 5, 6, 7, 8, 9].map((at) => `inv_${at}`));
   }, memory); // prettier-ignore
+});
+
+test('those that are claimed alone hide no others, and are said to be lost once they go on', { timeout: LONG }, async () => {
+  const memory = new Memory();
+  const store = memory.beside();
+  const ids = (what: string, many: number): string[] => Array.from({ length: many }, (_, at) => `inv_${what}${at}`);
+  const [alone, lost, ready] = [ids('alone', 25), ids('lost', 3), ids('ready', 3)];
+  for (const id of alone) {
+    await made(memory, id, waits, 'sleeps', 1, true);
+    await store.transact((to) => to.change('lease', { id, epoch: 1, worker: 'another', code: 'test', now: to.now }));
+  }
+  for (const id of lost) await made(memory, id, waits, 'sleeps', 2, true);
+  for (const id of ready) await made(memory, id, waits, 'sleeps', 3, false);
+  await store.transact((to) => to.change('enter', { worker: 'own', lease: 60, code: 'test', serves: '' }));
+  const said: string[] = [];
+  store.told = (it) => it.notes.forEach((one) => said.push(one.invocation));
+  const claimer = { worker: 'own', code: 'test', services: servicesOf([waits]), codec: JSON_CODEC, suspected: 0 };
+  const looked = async (): Promise<string[]> => {
+    const found = await store.transact((to) => look(to, claimer, { isWhole: true, isDue: true, hasCome: true }, new Set(), 5));
+    return found.claims.map((it) => it.id);
+  };
+  assert.deepEqual(await looked(), [alone[0], ...lost, ready[0]]);
+  assert.deepEqual([await looked(), said], [ready.slice(1), [alone[0], ...lost]]);
 });
 
 test('more timers than one transaction fires', { timeout: LONG }, async () => {

@@ -230,6 +230,23 @@ class Lost(OnOne):
         [third] = self.claim("four")
         self.assertNotEqual(third.invocation, second.invocation)
 
+    @mock.patch.object(claiming, "_ALONE", OnOne.LEASE)
+    def test_those_that_have_to_wait_hide_no_others(self):
+        """However many are to be claimed alone, or have an attempt here that has lost its lease, a claim takes as many others as it may."""
+        suspects = [self.create("Claims", "echoes", argument=b"1") for _ in range(5)]
+        for worker in ("one", "two"):
+            self.assertEqual(len(self.lost(worker)), 5)
+        had = [self.create("Claims", "echoes", argument=b"1") for _ in range(2)]
+        self.db.change("UPDATE invocations SET status='running', worker='three', epoch=1 WHERE status='ready'")
+        new = [self.create("Claims", "echoes", argument=b"1") for _ in range(3)]
+        self.enter("four")
+        self.assertEqual([self.claimed("four", 2) for _ in range(4)], [had, [suspects[0], new[0]], new[1:], []])
+        self.db.change("DELETE FROM workers")
+        live = self.claimed("five", 20)
+        last = self.create("Claims", "echoes", argument=b"1")
+        found = self.db.done(lambda db: Claimer("five", app, self.LEASE).claim(db, live, 1))
+        self.assertEqual([it.invocation for it in found.claims], [last])
+
     def test_others_are_claimed_beside_it(self):
         id, other = self.create("Claims", "echoes", argument=b"1"), self.create("Claims", "echoes", argument=b"2")
         self.lost("one")

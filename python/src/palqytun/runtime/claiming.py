@@ -26,6 +26,7 @@ _AT_ONCE = 500  # leases that one statement takes
 _FEWEST = 20  # ready invocations that a claim may take, however many workers there are
 _SHARE = f"SELECT CASE WHEN many<2 OR ?<={_FEWEST} THEN ? WHEN ?/many<{_FEWEST} THEN {_FEWEST} ELSE ?/many END FROM alive"
 
+_ARE_SUSPECTS = f"deaths BETWEEN {SUSPECT - 1} AND {MOST_LOST - 2}"  # of those that have lost their worker once more
 _DUE = [it.name for it in fields(Claimable)].index("due")
 
 # If nobody has a key's lock, only its first call is free, so the calls of a key begin in their order, however many workers claim.
@@ -153,8 +154,9 @@ class Claimer:
         await schedules.fire(db, self.app, found.out, now)
         await self._cancel(db, found.out, cancelled, now)
         found.out.touched |= {row[0] for row in fresh}
-        read = (orphaned, ready, awake) if is_new else await db.several(some)  # else what was read may have changed
-        rows = [Claimable(*row) for row in await self._rows(db, found, now, room, bool(fresh or due), read)]
+        orphaned, *read = (orphaned, ready, awake) if is_new else await db.several(some)  # else what was read may have changed
+        lost = await self._lost(db, orphaned, live)
+        rows = [Claimable(*row) for row in await self._rows(db, found, now, room, bool(fresh or due), (lost, *read))]
         free = await self._without_suspects(db, [it for it in rows if it.id not in live])
         for at in range(0, len(free), _AT_ONCE):
             found.claims += await invocations.claim(db, self.worker, free[at : at + _AT_ONCE], found.out, self.code)
@@ -178,6 +180,12 @@ class Claimer:
             marks, waits = ",".join("?" * len(cancelled)), "(status='paused' OR (status='ready' AND (epoch=0 OR due>?)))"
             for (id,) in await db.rows(f"SELECT id FROM invocations WHERE id IN ({marks}) AND {waits}{db.skip}", (*cancelled, now)):
                 await acts.reached(db, out, id)
+
+    async def _lost(self, db: Database, rows: list[Any], live: Collection[str]) -> list[Any]:
+        """Those that have lost their worker and may go on now, by their age. The others hide none of them, and nothing that is ready."""
+        free = await self._without_suspects(db, [it for it in (Claimable(*row) for row in rows) if it.id not in live])
+        ids = {it.id for it in free}
+        return sorted((row for row in rows if row[0] in ids), key=operator.itemgetter(_DUE))
 
     async def _without_suspects(self, db: Database, rows: list[Claimable]) -> list[Claimable]:
         """Invocations whose attempts were lost again and again with their workers are claimed one at a time: that which was lost least often, and the
@@ -296,8 +304,9 @@ class Claimer:
         return sql, (most, most, most, most, *share.values, now)
 
     def _orphaned(self, db: Database, most: int) -> Asked:
-        """Reads running ones whose worker isn't alive, in the order in which they were due. They are counted as running already, so no limit keeps them out."""
-        sql = f"SELECT {CLAIMED} FROM invocations WHERE {self.own.where} AND {orphaned(db)} ORDER BY due, seq LIMIT ?{db.skip}"
+        """Reads running ones whose worker isn't alive, in the order in which they were due, and those that are claimed alone last. They are counted as
+        running already, so no limit keeps them out."""
+        sql = f"SELECT {CLAIMED} FROM invocations WHERE {self.own.where} AND {orphaned(db)} ORDER BY {_ARE_SUSPECTS}, due, seq LIMIT ?{db.skip}"
         return sql, (*self.own.values, most)
 
     @staticmethod
