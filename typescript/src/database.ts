@@ -37,6 +37,7 @@ const LOST = /^(08|57P|53300)/;
 const LONGEST_WAIT = 1000; // milliseconds between two tries of an operation
 const PATIENCE = 10_000; // milliseconds that a connection may take to be made
 const LAST = 2000; // milliseconds in which transactions may end once their database is closed
+const READ_ONLY = 'a worker has to write, and this session may only read: the server is a standby, or default_transaction_read_only is on';
 const TRIED = new Set([20, 200, 2000]);
 const SAID = 10_000; // milliseconds between two warnings of a full disk
 
@@ -225,12 +226,13 @@ export class Database implements Store {
 
   private constructor(readonly config: Config, private readonly most: number, private readonly log: Log) {}
 
-  /** A database of this protocol's version. What is wrong with it is `Unsuitable`, in one line; one that can't be reached is `Lost`. */
-  static async open(url: string, most: number, log: Log): Promise<Database> {
+  /** A database of this protocol's version. What is wrong with it is `Unsuitable`, in one line; one that can't be reached, or that a worker can't write to
+   * now, is `Lost`. */
+  static async open(url: string, most: number, log: Log, isWorker = false): Promise<Database> {
     const found = new Database(configOf(url), most, log);
     const late = setTimeout(() => found.#all.forEach((it) => it.cut(`the server hasn't replied for ${PATIENCE} ms`)), 2 * PATIENCE);
     try {
-      await found.#checked();
+      await found.#checked(isWorker);
       await found.transact((to) => found.#ask(to));
     } catch (error) {
       await found.close();
@@ -241,14 +243,15 @@ export class Database implements Store {
     return found;
   }
 
-  async #checked(): Promise<void> {
+  async #checked(isWorker: boolean): Promise<void> {
     const connection = await this.#taken();
     try {
       const ask = async (text: string): Promise<Row> => (await connection.query({ text, rowMode: 'array' })).rows[0] ?? [];
       const [encoding, fsync, isThere] = await ask("SELECT current_setting('server_encoding'), current_setting('fsync'), to_regclass('promise_waiters') IS NOT NULL");
-      const unsafe = await ask("SELECT current_setting('palqytun.unsafe', true)");
+      const [unsafe, readOnly] = await ask("SELECT current_setting('palqytun.unsafe', true), current_setting('transaction_read_only')");
+      if (isWorker && readOnly === 'on') throw new Lost(READ_ONLY);
       if (encoding !== 'UTF8') throw new Unsuitable(`the database's encoding is ${String(encoding)}, and has to be UTF8`);
-      if (fsync === 'off' && unsafe[0] !== 'on') throw new Unsuitable("with fsync=off what was committed may be lost when the server's host stops; to allow it, set palqytun.unsafe=on");
+      if (fsync === 'off' && unsafe !== 'on') throw new Unsuitable("with fsync=off what was committed may be lost when the server's host stops; to allow it, set palqytun.unsafe=on");
       if (isThere !== true) throw new Unsuitable('the database has no tables of Palqytun: palqytun migrate makes them');
       const [version] = await ask('SELECT COALESCE(MAX(version), 0)::int FROM schema_versions');
       if (version !== VERSION) {

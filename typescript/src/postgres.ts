@@ -19,7 +19,7 @@ export class Postgres implements Place {
   constructor(private readonly url: string, private readonly log: Log, private readonly beating?: Beating) {}
 
   open(connections: number): Promise<Store> {
-    return Database.open(this.url, connections, this.log);
+    return Database.open(this.url, connections, this.log, this.beating !== undefined);
   }
 
   hears(own: string, store: Store, heard: (word: string) => void): Promise<Ends> {

@@ -2,7 +2,7 @@
 
 import assert from 'node:assert/strict';
 import { test } from 'node:test';
-import { Client, Log, Unavailable, service } from '@palqytun/sdk';
+import { Client, Log, Unavailable, Worker, service } from '@palqytun/sdk';
 import type { ServiceContext } from '@palqytun/sdk';
 import { LONG, URL, asked, stage, until } from './cluster';
 import type { Stage } from './cluster';
@@ -171,6 +171,17 @@ byProxy('a worker whose database doesn\'t reply ends after stop, and leaves no c
   proxy.goOn();
   await until(() => proxy.open === 0);
   assert(on.lines.some((it) => it['message'] === 'to leave failed: Error: it took longer than 5000 ms'));
+});
+
+test('a worker that comes to a standby tries again, and claims nothing', { timeout: LONG }, async () => {
+  const lines: string[] = [];
+  const url = `${URL}${URL.includes('?') ? '&' : '?'}options=-cdefault_transaction_read_only%3Don`;
+  const worker = new Worker({ url, services: [work], log: { write: (line) => void lines.push(line) } });
+  const running = worker.run();
+  const wanted = 'the database is lost: a worker has to write, and this session may only read: the server is a standby, or default_transaction_read_only is on';
+  await until(() => lines.filter((it) => it.includes(wanted)).length === 2);
+  worker.stop();
+  await running;
 });
 
 byProxy('a client whose connections end says so, and connects again', async (proxy) => {

@@ -3,13 +3,15 @@
 import asyncio
 import contextlib
 import dataclasses
+import time
 import unittest
 from unittest import mock
 
 import support  # isort: skip
 
 from palqytun.runtime import App, BadName, Client, Context, Engine, Service, TerminalError, Unavailable, VirtualObject, Workflow
-from palqytun.runtime.database import connect
+from palqytun.runtime.database import Conflict, connect
+from palqytun.runtime.database.postgres import Postgres
 from palqytun.runtime.database.sqlite import InUse
 
 shop, stock, visa = Service("Shop"), VirtualObject("Stock"), Workflow("Visa")
@@ -232,6 +234,35 @@ class Several(support.OnADatabase, unittest.TestCase):
                 self.assertEqual(raised.exception.code, 409)
 
         asyncio.run(asyncio.wait_for(go(), support.LONG))
+
+    def test_a_client_and_a_worker_that_come_to_a_standby(self):
+        """Nobody listens to a standby. They try again, by and by, until it is a server that they can use."""
+        tries, listening = [], Postgres._listening
+
+        async def refused(db, worker):
+            tries.append(time.monotonic())
+            if tries[-1] < tries[0] + 1:
+                raise Conflict("cannot execute LISTEN during recovery")
+            return await listening(db, worker)
+
+        async def go():
+            async with Engine(app, self.url, idle=0, poll=0.1, lease=support.LEASE), Client(app, self.url) as client:
+                with mock.patch.object(Postgres, "_listening", refused):
+                    other = await connect(self.url)
+                    await other.rows("SELECT pg_terminate_backend(pid) FROM pg_stat_activity WHERE datname=current_database() AND pid<>pg_backend_pid()")
+                    other.close()
+                    while not tries or tries[-1] < tries[0] + 1:
+                        await asyncio.sleep(0.05)
+                    while True:
+                        with contextlib.suppress(Unavailable):
+                            await client.send(waits, "x")
+                            break
+                        await asyncio.sleep(0.05)
+                while len(made) < 1:
+                    await asyncio.sleep(0.05)
+
+        asyncio.run(asyncio.wait_for(go(), support.LONG))
+        self.assertLess(len(tries), 30)
 
 
 if __name__ == "__main__":

@@ -14,7 +14,7 @@ import support  # isort: skip
 import needs
 import postgres
 import runtime_app
-from palqytun.runtime import App, Context, Service, Transaction, Unavailable, committer, transactions
+from palqytun.runtime import App, Client, Context, Service, Transaction, Unavailable, committer, transactions
 from palqytun.runtime.committer import Committer
 from palqytun.runtime.database import Conflict, Full, Lost, StatementFailed, connect
 from palqytun.runtime.database.plain import Plain
@@ -484,6 +484,29 @@ class Networks(support.OnADatabase, unittest.TestCase):
             wire.end()
 
         asyncio.run(asyncio.wait_for(go(), 2 * support.LONG))
+
+    def test_a_worker_and_a_client_that_end_while_it_stops(self):
+        """Each part of their end has its limit, also a claim that is never answered."""
+
+        async def go():
+            wire = Wire(self.url)
+            url = await wire.url()
+            far, client = Runtime(app, url, grace=0.1, idle=60), Client(app, url)
+            await far.__aenter__()
+            await client.__aenter__()
+            waits = asyncio.create_task(client.call("Servers/slowly", 1000))
+            while not far.engine.live:
+                await asyncio.sleep(0.02)
+            wire.stop()
+            await asyncio.sleep(0.5)
+            begun = time.monotonic()
+            await asyncio.gather(far.__aexit__(), client.__aexit__())
+            self.assertLess(time.monotonic() - begun, support.LONG / 2)
+            with self.assertRaises(Unavailable):
+                await waits
+            wire.end()
+
+        asyncio.run(asyncio.wait_for(go(), support.LONG))
 
 
 class Pipelines(support.OnADatabase, unittest.TestCase):

@@ -30,6 +30,7 @@ log = logging.getLogger("palqytun")
 _ANSWERED = 30.0  # seconds that a request waits for its transaction
 _LOOKED = 5.0  # seconds at most between two looks at a result, of which no worker may tell; sooner at first
 _SHORTEST, _LONGEST = 0.1, 5.0  # seconds between connections
+_LAST = 15.0  # seconds that the end of a connection may take
 
 
 class Unavailable(TerminalError):
@@ -265,21 +266,27 @@ class RemoteDesk(Desk):
         self._stop.set()
         self.let_go()
         if self._running is not None:
-            await self._running
+            await asyncio.wait([self._running], timeout=_LAST)
+            if not self._running.done():  # the database doesn't reply
+                self._running.cancel()
+                await asyncio.wait([self._running])
+            elif not self._running.cancelled():
+                self._running.result()
 
     async def _run(self) -> None:
         delay = _SHORTEST
         while not self.drains:
+            self._is_open.clear()
             try:
-                db = await connect(self._url)
+                await self._connected(await connect(self._url))
             except (Lost, Conflict) as error:
                 log.warning("the database can't be reached: %s", error)
-                with contextlib.suppress(asyncio.TimeoutError):
-                    await asyncio.wait_for(self._stop.wait(), delay * (0.5 + random.random()))
-                delay = min(_LONGEST, delay * 2)
+            if self._is_open.is_set():
+                delay = _SHORTEST
                 continue
-            delay = _SHORTEST
-            await self._connected(db)
+            with contextlib.suppress(asyncio.TimeoutError):
+                await asyncio.wait_for(self._stop.wait(), delay * (0.5 + random.random()))
+            delay = min(_LONGEST, delay * 2)
 
     async def _connected(self, db: Database) -> None:
         """As long as the connection lasts."""

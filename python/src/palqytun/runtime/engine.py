@@ -247,10 +247,10 @@ class Engine(Desk):
         beside = [asyncio.create_task(it) for it in others]
         beats = self._beats = db.beats(claimer.worker, self.lease, lambda: True)
         try:
-            await committer.submit(claimer.enter)
+            await self._unless_late(committer.submit(claimer.enter))
             if beats is not None:
                 beats.start()
-            unlisten = await db.listen(claimer.worker, self._heard)
+            unlisten = await self._unless_late(db.listen(claimer.worker, self._heard))
             self.counts["sessions"] += 1
             self._is_open.set()
             await self._loop(committer, claimer)
@@ -272,6 +272,20 @@ class Engine(Desk):
             self._committer = None
             await _within("to close the connection", committer.close())
             await asyncio.wait(beside, timeout=_LAST)
+
+    async def _unless_late(self, awaited: Awaitable[T]) -> T | None:
+        """What it gives; none if `stop` is asked, and it takes longer than a part of a shutdown may: the database may not reply."""
+        made, late = asyncio.ensure_future(awaited), asyncio.ensure_future(self._late())
+        try:
+            await asyncio.wait([made, late], return_when=asyncio.FIRST_COMPLETED)
+            return await made if made.done() else None
+        finally:
+            made.cancel()
+            late.cancel()
+
+    async def _late(self) -> None:
+        await self._stop.wait()
+        await asyncio.sleep(_LAST)
 
     async def _drain(self) -> None:
         """The worker stops: runs that are executed may end within the grace, and their results are stored. Nothing else begins, and what waits
@@ -308,11 +322,13 @@ class Engine(Desk):
                 room, live = min(self.room, _CLAIMS), frozenset(self.live)
                 is_told, self._is_told = self._is_told, False
                 try:
-                    found: Claims = await committer.submit(lambda db: claimer.claim(db, live, room))
+                    found = await self._unless_late(committer.submit(lambda db: claimer.claim(db, live, room)))
                 except StatementFailed as error:
                     log.warning("a claim wasn't made, and is made again: %s", error)
                     await self._pause(1.0)
                     continue
+                if found is None:
+                    return
                 for claim in found.claims:
                     self._begin(claim)
                 if found.has_more and not self.room:

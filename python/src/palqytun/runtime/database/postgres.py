@@ -165,7 +165,8 @@ class _Server:
         driver = _driver()
         try:
             with driver.named():
-                return await asyncio.wait_for(driver.psycopg.AsyncConnection.connect(server.conninfo, autocommit=True, **_OPTIONS), patience)
+                async with asyncio.timeout(patience):  # `wait_for` drops a cancellation that comes with the connection
+                    return await driver.psycopg.AsyncConnection.connect(server.conninfo, autocommit=True, **_OPTIONS)
         except asyncio.TimeoutError:
             raise Lost(f"the server hasn't replied for {patience:.1f} seconds") from None
 
@@ -443,7 +444,11 @@ class Postgres:
         self._touched.add(invocation)
 
     async def listen(self, worker: str, heard: Callable[[str], None]) -> Callable[[], None] | None:
-        task = asyncio.create_task(self._hear(await self._listening(worker), worker, heard))
+        try:
+            connection = await self._listening(worker)
+        except Conflict as error:  # as of a standby
+            raise Lost(str(error)) from error
+        task = asyncio.create_task(self._hear(connection, worker, heard))
 
         def end() -> None:
             task.cancel()
