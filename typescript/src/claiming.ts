@@ -32,6 +32,8 @@ export interface Claimer {
   readonly codec: Codec;
   /** When the last suspect was claimed, by the database's time. */
   suspected: number;
+  /** How many looks there were. */
+  looks: number;
 }
 
 /** What a look has found. */
@@ -125,6 +127,13 @@ class Looking {
     await this.ofHandlers(service, [handler], limit - Number(running));
   }
 
+  /** Those of handlers that have a limit or a queue. */
+  async limits(handlers: readonly AnyHandler[]): Promise<void> {
+    const limited = handlers.filter((one) => one.limit !== undefined);
+    for (const one of limited.sort((first, second) => (pathOf(first) < pathOf(second) ? -1 : 1))) await this.limited(one);
+    for (const queue of queuesOf(this.claimer.services)) await this.queued(queue);
+  }
+
   async queued(queue: Queue): Promise<void> {
     if (this.left <= 0) return;
     const { to, found, claimer } = this;
@@ -187,7 +196,14 @@ function byAge(ready: readonly Row[], lost: readonly Row[]): { row: Row; isReady
   return both.sort((one, other) => (one.row[4] as number) - (other.row[4] as number));
 }
 
-/** Fires the timers that are due, and claims at most `room` invocations that can go on; `live` are those that have an attempt here. */
+/** The services, from one of them on. */
+function fromTurn(services: readonly About[], turn: number): readonly About[] {
+  const at = services.length === 0 ? 0 : turn % services.length;
+  return [...services.slice(at), ...services.slice(0, at)];
+}
+
+/** Fires the timers that are due, and claims at most `room` invocations that can go on; `live` are those that have an attempt here. Each service comes first
+ * in its turn, and what has a limit or a queue in every second look: so none keeps the others out. */
 export async function look(to: Statements, claimer: Claimer, asked: Asked, live: ReadonlySet<string>, room: number): Promise<Look> {
   const it = new Looking(to, claimer, asked, live, room);
   const { found } = it;
@@ -197,14 +213,14 @@ export async function look(to: Statements, claimer: Claimer, asked: Asked, live:
   if (asked.isWhole) await it.reached();
   if (asked.isDue) await fires(to, found);
   if (asked.isDue) await endLate(to);
-  for (const about of claimer.services.values()) {
+  const turn = claimer.looks++;
+  if (turn % 2 === 1) await it.limits(handlers);
+  for (const about of fromTurn([...claimer.services.values()], Math.trunc(turn / 2))) {
     const own = [...about.handlers.values()].filter((one) => one.limit === undefined && one.queue === undefined);
     const lost = asked.isWhole ? await it.orphaned(about) : [];
     await it.ofHandlers(about.name, own.map((one) => one.name), Infinity, lost);
   }
-  const limited = handlers.filter((one) => one.limit !== undefined);
-  for (const one of limited.sort((first, second) => (pathOf(first) < pathOf(second) ? -1 : 1))) await it.limited(one);
-  for (const queue of queuesOf(claimer.services)) await it.queued(queue);
+  if (turn % 2 === 0) await it.limits(handlers);
   const next = asked.isDue ? (((await to.rows('next', { now: to.now }))[0]?.[0] ?? null) as number | null) : null;
   if (next !== null) found.nextDue = Math.min(next, found.nextDue ?? Infinity);
   found.hasMore ||= found.hasMoreCome || it.left <= 0;

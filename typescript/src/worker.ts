@@ -290,7 +290,7 @@ export class Worker implements Host {
   async #session(): Promise<void> {
     const db = await this.#place.open(this.#options.connections);
     const session: Session = { isOver: false };
-    const claimer: Claimer = { worker: `${this.#options.name}-${randomBytes(6).toString('hex')}`, code: this.version, services: this.#services, codec: this.codec, suspected: 0 };
+    const claimer: Claimer = { worker: `${this.#options.name}-${randomBytes(6).toString('hex')}`, code: this.version, services: this.#services, codec: this.codec, suspected: 0, looks: 0 };
     db.onLost = (error) => {
       session.lost = error;
       this.#wakeUp();

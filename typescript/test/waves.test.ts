@@ -156,13 +156,26 @@ test('those that are claimed alone hide no others, and are said to be lost once 
   await store.transact((to) => to.change('enter', { worker: 'own', lease: 60, code: 'test', serves: '' }));
   const said: string[] = [];
   store.told = (it) => it.notes.forEach((one) => said.push(one.invocation));
-  const claimer = { worker: 'own', code: 'test', services: servicesOf([waits]), codec: JSON_CODEC, suspected: 0 };
+  const claimer = { worker: 'own', code: 'test', services: servicesOf([waits]), codec: JSON_CODEC, suspected: 0, looks: 0 };
   const looked = async (): Promise<string[]> => {
     const found = await store.transact((to) => look(to, claimer, { isWhole: true, isDue: true, hasCome: true }, new Set(), 5));
     return found.claims.map((it) => it.id);
   };
   assert.deepEqual(await looked(), [alone[0], ...lost, ready[0]]);
   assert.deepEqual([await looked(), said], [ready.slice(1), [alone[0], ...lost]]);
+});
+
+test('no service, limit or queue is kept out for good by what waits in another', { timeout: LONG }, async () => {
+  const seen: string[] = [];
+  const goes = async (ctx: ServiceContext, id: string): Promise<unknown> => ctx.run('goes', () => void seen.push(id));
+  const [many, other] = [service('Many', { goes }), service('Other', { goes, limited: handler(goes, { limit: 3 }), queued: handler(goes, { queue: new Queue('turned') }) })];
+  const memory = new Memory();
+  for (const name of ['goes', 'limited', 'queued']) await made(memory, `inv_${name}`, other, name, 1, false);
+  for (let at = 0; at < MANY; at++) await made(memory, `inv_many${at}`, many, 'goes', 2, false);
+  await inMemory([many, other], 1, async () => {
+    await until(() => count(memory, 'done') === MANY + 3);
+    for (const name of ['goes', 'limited', 'queued']) assert(seen.indexOf(`inv_${name}`) < 10, `${name} is number ${seen.indexOf(`inv_${name}`)}`);
+  }, memory); // prettier-ignore
 });
 
 test('more timers than one transaction fires', { timeout: LONG }, async () => {

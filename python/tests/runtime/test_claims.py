@@ -284,6 +284,17 @@ class Lost(OnOne):
 
 
 @support.on_each_database
+class Turns(OnOne):
+    def test_nothing_keeps_others_out_for_good(self):
+        """However much waits that has no limit, what has one or a queue is begun, and the other way round."""
+        many, few = [self.create("Claims", "echoes", argument=b"1") for _ in range(6)], [self.create("Claims", it, argument=b"1") for it in ("limited", "queued")]
+        self.enter("one")
+        claimer = Claimer("one", app, self.LEASE)
+        found = [self.db.done(lambda db: claimer.claim(db, (), 1)).claims[0].invocation for _ in range(6)]
+        self.assertEqual(found, [many[0], few[0], many[1], few[1], *many[2:4]])
+
+
+@support.on_each_database
 class Woken(OnOne):
     """Suspended invocations for which something came."""
 

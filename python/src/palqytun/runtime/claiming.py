@@ -4,9 +4,10 @@ from __future__ import annotations
 
 import functools
 import heapq
+import itertools
 import operator
 import time
-from collections.abc import AsyncIterator, Collection, Sequence
+from collections.abc import AsyncIterator, Collection, Iterator, Sequence
 from dataclasses import dataclass, field, fields
 from typing import Any
 
@@ -86,6 +87,7 @@ class Claimer:
     former: str = ""  # the worker that this process was before it lost its database
     version: str = ""  # of the app's code, if it isn't the app's own
     peers: list[str] = field(default_factory=list)  # as the last claim found them
+    turns: Iterator[int] = field(default_factory=itertools.count)
 
     @property
     def has_peers(self) -> bool:
@@ -218,25 +220,40 @@ class Claimer:
 
     async def _rows(self, db: Database, claims: Claims, now: float, room: int, has_fresh: bool, read: Sequence[list[Any]]) -> list[Any]:
         """Invocations that can go on, each with its row kept until the commit. `read` are those that have lost their worker, and what was read of those
-        without a limit. Those that have lost their worker come by their age, among the ready ones that no limit keeps waiting."""
-        rows, (orphaned, *first) = list[Any](), read
+        without a limit. Those that have lost their worker come by their age, among the ready ones that no limit keeps waiting. Every second claim begins with
+        what has a limit or a queue, so that neither keeps the other out."""
+        (lost, *first), begins_limited = read, next(self.turns) % 2 == 1
+        rows = await self._limited(db, claims, now, room, has_fresh) if begins_limited else []
+        if len(rows) < room:
+            rows += await self._shared(db, claims, room - len(rows), first, lost)
+        if not begins_limited:
+            rows += await self._limited(db, claims, now, room - len(rows), has_fresh)
+        claims.has_more |= len(rows) == room
+        return rows
+
+    async def _limited(self, db: Database, claims: Claims, now: float, room: int, has_fresh: bool) -> list[Any]:
+        """Those of handlers that have a limit or a queue."""
+        rows: list[Any] = []
+        if room <= 0:
+            return rows
         async for share in self._shares(db):
             most = min(share.room, room - len(rows))
-            if most <= 0:
-                continue
-            ready, awake = first if share is self._unlimited else await db.several(self._of(db, share, now, most))
-            claims.has_more |= bool(ready) and len(ready) >= ready[0][-1]
-            woken = await self._woken(db, awake) if awake else []
-            claims.has_more |= len(awake) == most and len(woken) < len(awake)  # those that stay as they are hide no others any more
-            lost = orphaned if share is self._unlimited else []
-            found = [*woken, *heapq.merge(lost, (row[:-1] for row in ready), key=operator.itemgetter(_DUE))]
-            claims.has_more |= len(found) > most
-            rows += found[:most]
+            if most > 0:
+                rows += await self._shared(db, claims, most, await db.several(self._of(db, share, now, most)))
         for queue in self.app.queues.values():
             if len(rows) < room:
                 rows += await self._queued(db, claims, queue, now, room - len(rows), has_fresh)
-        claims.has_more |= len(rows) == room
         return rows
+
+    async def _shared(self, db: Database, claims: Claims, most: int, read: Sequence[list[Any]], lost: Sequence[Any] = ()) -> list[Any]:
+        """Those of a share, of which `read` are ready, and such as may be woken."""
+        ready, awake = read
+        claims.has_more |= bool(ready) and len(ready) >= ready[0][-1]
+        woken = await self._woken(db, awake) if awake else []
+        claims.has_more |= len(awake) >= most and len(woken) < len(awake)  # those that stay as they are hide no others any more
+        found = [*woken, *heapq.merge(lost, (row[:-1] for row in ready), key=operator.itemgetter(_DUE))]
+        claims.has_more |= len(found) > most
+        return found[:most]
 
     async def _queued(self, db: Database, claims: Claims, queue: Queue, now: float, most: int, has_fresh: bool) -> list[Any]:
         """Invocations of a queue that can go on."""
@@ -267,9 +284,7 @@ class Claimer:
         return Share(f"queue IS NULL AND {own.where}{is_free}", (*own.values, *named), 1_000_000)
 
     async def _shares(self, db: Database) -> AsyncIterator[Share]:
-        """The handlers without a limit, and then each that has one. The rows of the limits are kept until the commit, so two workers don't count
-        at one time."""
-        yield self._unlimited
+        """Each handler that has a limit. The rows of the limits are kept until the commit, so two workers don't count at one time."""
         for it in self.app.limited():
             await db.rows(f"SELECT path FROM limits WHERE path=?{db.lock}", (it.path,))
             names = (it.service.name, it.name)
