@@ -133,7 +133,7 @@ declare const process: {
   exitCode: number | undefined;
   on(event: string, heard: (...given: never[]) => void): void;
   off(event: string, heard: (...given: never[]) => void): void;
-  exit(status: number): never;
+  exit(status?: number): never;
   kill(pid: number, signal: string): void;
 };
 declare const __dirname: string;

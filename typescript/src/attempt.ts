@@ -68,7 +68,7 @@ type Executed =
 /** How a handler has ended: undefined as long as it hasn't. */
 type Ending = { readonly value: unknown } | { readonly thrown: unknown } | undefined;
 
-const LONGEST = 2 ** 31 - 1; // milliseconds of a timer
+export const LONGEST_TIMER = 2 ** 31 - 1; // milliseconds, after which a timer would fire at once
 const FOREIGN = "something that its context didn't give: other work stands in ctx.run";
 
 export class Attempt {
@@ -405,7 +405,7 @@ export class Attempt {
     let timer: Timer | undefined;
     await new Promise<void>((heard) => {
       this.#ring = heard;
-      if (patience !== undefined) timer = setTimeout(heard, patience);
+      if (patience !== undefined) timer = setTimeout(heard, Math.min(patience, LONGEST_TIMER));
     });
     this.#ring = () => undefined;
     clearTimeout(timer);
@@ -480,7 +480,7 @@ async function timed(run: () => Promise<unknown>, { timeout }: Action, abort: Ab
     const look = (): void => {
       const left = Math.min(pulse.left, until - performance.now());
       if (left > 0) {
-        if (left < Infinity) timer = setTimeout(look, Math.min(left, LONGEST));
+        if (left < Infinity) timer = setTimeout(look, Math.min(left, LONGEST_TIMER));
         return;
       }
       abort.abort();

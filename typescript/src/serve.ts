@@ -6,6 +6,8 @@ import { Log } from './log';
 import { GRACE, Worker } from './worker';
 import type { WorkerOptions } from './worker';
 
+const LAST = 1000; // milliseconds that runs have which are still executed at the end
+
 export interface ServeOptions extends WorkerOptions {
   /** A port on the loopback whose /metrics has the numbers for Prometheus; 0 is a free one. */
   metricsPort?: number;
@@ -13,7 +15,8 @@ export interface ServeOptions extends WorkerOptions {
 
 /**
  * Runs a worker until SIGTERM or SIGINT; a second one ends the process at once. What handlers and effects throw where nobody awaits it is logged, and the
- * worker goes on. A database that can't be used as it is set up is one line, and status 1.
+ * worker goes on. A database that can't be used as it is set up is one line, and status 1. Runs that are still executed after the grace keep the process
+ * no longer than a second.
  */
 export async function serve(options: ServeOptions): Promise<void> {
   const log = options.log instanceof Log ? options.log : new Log(options.log);
@@ -44,6 +47,10 @@ export async function serve(options: ServeOptions): Promise<void> {
     process.off('SIGINT', stop);
     process.off('unhandledRejection', rejected as () => void);
     process.off('uncaughtException', thrown as () => void);
+    if (worker.executing > 0) {
+      log.warning(`runs that are still executed are left: ${worker.executing}`);
+      setTimeout(() => process.exit(), LAST).unref();
+    }
   }
 }
 

@@ -1,7 +1,7 @@
 /** The worker: it takes leases, makes attempts, and commits what they write. It goes on when its database is lost and comes back. */
 
 import { randomBytes } from 'node:crypto';
-import { Attempt, Stopped } from './attempt';
+import { Attempt, LONGEST_TIMER, Stopped } from './attempt';
 import type { Host } from './attempt';
 import { look } from './claiming';
 import type { Claimer, Look } from './claiming';
@@ -58,6 +58,7 @@ const AT_ONCE = 20; // claims of one transaction, so that other workers get some
 const MOMENT = 5; // milliseconds, in which several words are one look
 const LAST = 5_000; // milliseconds that each part of a shutdown may take, beside the grace
 const NUMBERS = ['limit', 'idle', 'lease', 'poll', 'grace', 'stuck', 'effects', 'connections'] as const;
+const COUNTS = new Set<string>(['limit', 'effects', 'connections']);
 const MAY_BE_NOTHING = new Set<string>(['idle', 'grace', 'stuck']);
 
 function checked(options: WorkerOptions): void {
@@ -65,7 +66,9 @@ function checked(options: WorkerOptions): void {
   for (const name of NUMBERS) {
     const given = options[name];
     const least = MAY_BE_NOTHING.has(name) ? 0 : 1;
+    const most = COUNTS.has(name) ? Infinity : LONGEST_TIMER;
     if (given !== undefined && !(typeof given === 'number' && given >= least && given < Infinity)) throw new RangeError(`${name} must be a number from ${least}, not ${shown(given)}`);
+    if (given !== undefined && given > most) throw new RangeError(`${name} must be at most ${most} milliseconds, which is all that a timer takes, not ${shown(given)}`);
   }
 }
 
@@ -78,8 +81,13 @@ class Room {
   #free: number;
   readonly #waiting: (() => void)[] = [];
 
-  constructor(size: number) {
+  constructor(private readonly size: number) {
     this.#free = size;
+  }
+
+  /** How many are within it. */
+  get busy(): number {
+    return this.size - this.#free;
   }
 
   async within<T>(does: () => Promise<T>): Promise<T> {
@@ -163,6 +171,11 @@ export class Worker implements Host {
   /** How many attempts there are. @internal */
   get live(): number {
     return this.#live.size;
+  }
+
+  /** How many runs are executed. @internal */
+  get executing(): number {
+    return this.#effects.busy;
   }
 
   // ---- what attempts need
@@ -499,9 +512,15 @@ function at(to: Statements, now: number): Statements {
 
 /** A part of a shutdown, which has its limit. */
 async function within(what: string, log: Log, awaited: Promise<unknown>): Promise<void> {
+  let timer: Timer | undefined;
+  const late = new Promise<never>((_, reject) => {
+    timer = setTimeout(() => reject(new Error(`it took longer than ${LAST} ms`)), LAST);
+  });
   try {
-    await Promise.race([awaited, after(LAST).then(() => Promise.reject(new Error(`it took longer than ${LAST} ms`)))]);
+    await Promise.race([awaited, late]);
   } catch (error) {
     log.warning(`${what} failed: ${said(error)}`);
+  } finally {
+    clearTimeout(timer); // it would keep the process
   }
 }

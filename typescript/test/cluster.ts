@@ -12,11 +12,15 @@ export const LONG = 300_000; // milliseconds after which a test that waits has f
 
 const LEFT = 60_000; // milliseconds in which the process of a file ends by itself, once its tests have ended
 
+/** What keeps this process open. */
+export function kept(): string[] {
+  return (process as unknown as { getActiveResourcesInfo(): string[] }).getActiveResourcesInfo();
+}
+
 /** A process that something keeps open fails, and says what that is. */
 after(() => {
   const late = (): never => {
-    const open = (process as unknown as { getActiveResourcesInfo(): string[] }).getActiveResourcesInfo();
-    process.stderr.write(`the tests have ended, and their process is kept open by ${open.join(', ')}\n`);
+    process.stderr.write(`the tests have ended, and their process is kept open by ${kept().join(', ')}\n`);
     return process.exit(1);
   };
   setTimeout(late, LEFT).unref();

@@ -5,6 +5,7 @@ import { spawn } from 'node:child_process';
 import type { ChildProcess } from 'node:child_process';
 import { test } from 'node:test';
 import { Client } from '@palqytun/sdk';
+import type { Sent } from '@palqytun/sdk';
 import { LONG, URL, empty, until } from './cluster';
 
 interface Program {
@@ -17,8 +18,8 @@ interface Program {
 }
 
 /** The program over a database. It ends with the test, whatever comes of that. */
-async function program(url: string, does: (it: Program) => Promise<void>): Promise<void> {
-  const child = spawn(process.execPath, [`${__dirname}/serve_app.js`], { env: { ...process.env, SERVE_URL: url }, stdio: ['ignore', 'ignore', 'pipe'] });
+async function program(url: string, does: (it: Program) => Promise<void>, more: Readonly<Record<string, string>> = {}): Promise<void> {
+  const child = spawn(process.execPath, [`${__dirname}/serve_app.js`], { env: { ...process.env, ...more, SERVE_URL: url }, stdio: ['ignore', 'ignore', 'pipe'] });
   const lines: Record<string, unknown>[] = [];
   let rest = '';
   child.stderr.on('data', (data) => {
@@ -71,6 +72,21 @@ test('a second SIGTERM ends it while a run is executed', { timeout: LONG }, asyn
     child.kill('SIGTERM');
     assert.equal(await ended, 130);
   });
+  await client.close();
+});
+
+test('a run that is executed after the grace, and would keep the process, doesn\'t', { timeout: LONG }, async () => {
+  const client = await Client.connect({ url: URL });
+  await program(URL, async ({ child, says, ended }) => {
+    await says('the numbers are at ');
+    const sent: Sent<unknown>[] = [];
+    await until(() => client.send('Served/stays').then((it) => sent.push(it) > 0, () => false));
+    await says('it stays');
+    child.kill('SIGTERM');
+    await says('runs that are still executed are left: 1');
+    assert.equal(await ended, 0);
+    for (const it of sent) await it.cancel();
+  }, { SERVE_GRACE: '100' }); // prettier-ignore
   await client.close();
 });
 

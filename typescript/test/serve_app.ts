@@ -16,6 +16,10 @@ const served = service('Served', {
     ctx.log.info('it hangs');
     return ctx.run('hangs', () => new Promise(() => undefined));
   },
+  stays: async (ctx: ServiceContext, _: null): Promise<unknown> => {
+    ctx.log.info('it stays');
+    return ctx.run('stays', () => new Promise(() => setInterval(() => undefined, 1000)));
+  },
 });
 
-void serve({ url: process.env['SERVE_URL'] ?? '', services: [served], idle: 0, lease: 300_000, grace: 3_600_000, metricsPort: 0, log: { format: 'json' } });
+void serve({ url: process.env['SERVE_URL'] ?? '', services: [served], idle: 0, lease: 300_000, grace: Number(process.env['SERVE_GRACE'] ?? 3_600_000), metricsPort: 0, log: { format: 'json' } });

@@ -2,10 +2,10 @@
 
 import assert from 'node:assert/strict';
 import { test } from 'node:test';
-import { Cancelled, Unsuitable, Worker, service } from '@palqytun/sdk';
+import { Cancelled, Unsuitable, Worker, handler, service } from '@palqytun/sdk';
 import type { ServiceContext } from '@palqytun/sdk';
 import { Client as Connection } from 'pg';
-import { LONG, URL, asked, empty, stage, until } from './cluster';
+import { LONG, URL, asked, empty, kept, stage, until } from './cluster';
 import { configOf } from '../database';
 
 let executed = 0;
@@ -42,6 +42,9 @@ const work = service('Grace', {
     }
     return steps;
   },
+  patient: handler(async (ctx: ServiceContext, _: null): Promise<string> => ctx.run('patient', () => new Promise<string>((done) => setTimeout(() => done('patient'), 300))), {
+    attemptTimeout: 30 * 86_400_000,
+  }),
   patched: async (ctx: ServiceContext, _: null): Promise<unknown> => {
     const applies = ctx.patched('mail');
     ctx.log.info('it goes on', { at: 1 });
@@ -82,6 +85,16 @@ test('runs end within the grace and are executed once, and another worker goes o
   }
 });
 
+test('a worker and a client that have ended leave nothing that would keep their process', { timeout: LONG }, async () => {
+  const before = kept();
+  const timers = (all: readonly string[]): number => all.filter((it) => it === 'Timeout').length;
+  const on = await stage([work]);
+  assert.equal(await on.client.call(work.patient, null), 'patient');
+  await on.end();
+  assert.equal(timers(kept()), timers(before));
+  await until(() => kept().length <= before.length);
+});
+
 test('a run that may not begin, beside one that is executed', { timeout: LONG }, async () => {
   const on = await stage([work], { grace: LONG });
   const sent = await on.client.send(work.branches, null);
@@ -98,6 +111,21 @@ test('a run that may not begin, beside one that is executed', { timeout: LONG },
   } finally {
     await again.end();
   }
+});
+
+test('a limit of time that is longer than a timer takes', { timeout: LONG }, async () => {
+  const warnings: string[] = [];
+  const heard = (it: Error): void => void warnings.push(it.name);
+  process.on('warning', heard as () => void);
+  const on = await stage([work]);
+  try {
+    assert.equal(await on.client.call(work.patient, null), 'patient');
+  } finally {
+    await on.end();
+    process.off('warning', heard as () => void);
+  }
+  assert.deepEqual(warnings, []); // each timer that is too long is one, and fires at once
+  assert.throws(() => new Worker({ url: URL, services: [], poll: 2 ** 31 }), /poll must be at most 2147483647 milliseconds, which is all that a timer takes, not 2147483648/);
 });
 
 test('cancellations wait for a shield, and patches and logs are recorded once', { timeout: LONG }, async () => {
