@@ -284,6 +284,19 @@ class Lost(OnOne):
 
 
 @support.on_each_database
+class Timers(OnOne):
+    def test_one_that_fires_as_its_attempt_is_suspended(self):
+        """The claim that fires it leaves it to the attempt, which has ended by then. So the worker claims again, and doesn't wait until it looks by itself."""
+
+        async def go():
+            async with Runtime(app, self.url, idle=0, poll=10 * support.LONG) as runtime:
+                for _ in range(300):
+                    self.assertIsNone(await runtime.call("Claims/sleeps", 0))
+
+        asyncio.run(asyncio.wait_for(go(), support.LONG))
+
+
+@support.on_each_database
 class Turns(OnOne):
     def test_nothing_keeps_others_out_for_good(self):
         """However much waits that has no limit, what has one or a queue is begun, and the other way round."""

@@ -337,6 +337,8 @@ class Engine(Desk):
                     self._moment = 0.0 if found.claims else min(_MOMENTS[1], max(_MOMENTS[0], 2 * self._moment))
                 self._has_more = found.has_more
                 self._look_for_more()
+                if (found.out.touched & live) - self.live.keys():  # an attempt has ended meanwhile, for which this claim has left it
+                    self._wake(0)
                 found.out.touched &= self.live.keys()
                 self.tell(found.out)
                 if found.next_due is not None and room:
