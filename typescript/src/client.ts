@@ -6,7 +6,7 @@ import { CHANNEL } from './database';
 import { Lost } from './tables';
 import type { Ends, Place, Statements, Store } from './tables';
 import { deliver, newest, send } from './delivery';
-import { BadValue, TerminalError, Unavailable } from './errors';
+import { BadValue, TerminalError, Unavailable, shown } from './errors';
 import { CANCEL, VOID, awakeableOf, failure, failureIn, valueIn } from './frames';
 import { checkedTrace } from './hash';
 import { create } from './invocations';
@@ -42,6 +42,7 @@ export interface ClientCall extends Queued {
 
 const LOOK = 1000; // milliseconds between two looks for a result
 const CONNECTIONS = 4;
+const LONGEST_DELAY = 1e13; // milliseconds, about three centuries
 const ANSWERED = 30_000; // milliseconds that a call waits for its transaction
 
 /** An invocation, as its client knows it. */
@@ -146,13 +147,15 @@ export class Client {
   async send<I, O>(callee: Handler<I, O>, argument: Fixed<I>, options?: ClientCall): Promise<Sent<O>>;
   async send<O = unknown>(callee: string, argument?: unknown, options?: ClientCall): Promise<Sent<O>>;
   async send<I, O>(callee: Handler<I, O> | string, argument?: I, options: ClientCall = {}): Promise<Sent<O>> {
-    const [service = '', handler = ''] = typeof callee === 'string' ? callee.split('/') : [callee.service, callee.name];
+    const [service, handler] = typeof callee === 'string' ? parts(callee) : [callee.service, callee.name];
     const data = this.codec.encode(argument);
     checkPayload('the argument', data.length, this.payload);
     checkName("the service's name", service);
     checkName("the handler's name", handler);
     checkName('the key', options.key ?? '');
     checkName('the idempotency key', options.idempotencyKey ?? '');
+    const { delay = 0 } = options;
+    if (!(delay <= LONGEST_DELAY)) throw new TerminalError(`the delay is ${shown(delay)}, and ${LONGEST_DELAY} milliseconds are allowed`, 400); // NaN too
     const [headers, trace] = [withQueue(options.headers, options), checkedTrace(options.headers?.['traceparent'])];
     const { id } = await this.#transact((to) =>
       create(to, this, {
@@ -243,6 +246,12 @@ export class Client {
       },
     };
   }
+}
+
+/** What stands before the first slash, and what stands behind it. */
+function parts(path: string): [service: string, handler: string] {
+  const at = path.indexOf('/');
+  return at < 0 ? [path, ''] : [path.slice(0, at), path.slice(at + 1)];
 }
 
 async function looked(to: Statements, id: string): Promise<Uint8Array | undefined> {

@@ -275,6 +275,10 @@ async function refusesNames(client: Client): Promise<void> {
       assert.deepEqual([error.code, error.message], [400, `${what} ${why}`]);
     }
   }
+  for (const delay of [NaN, Infinity, 1e14]) {
+    await assert.rejects(client.send(given.names, null, { delay }), { code: 400, message: `the delay is ${delay}, and 10000000000000 milliseconds are allowed` });
+  }
+  await assert.rejects(client.send('GivenNul/names/more'), { code: 404 });
 }
 
 test('names that no database has are refused by a client, on both databases and before they are asked', { timeout: LONG }, async () => {

@@ -290,7 +290,7 @@ class Timers(OnOne):
 
         async def go():
             async with Runtime(app, self.url, idle=0, poll=10 * support.LONG) as runtime:
-                for _ in range(300):
+                for _ in range(200):
                     self.assertIsNone(await runtime.call("Claims/sleeps", 0))
 
         asyncio.run(asyncio.wait_for(go(), support.LONG))

@@ -3,6 +3,7 @@
 import asyncio
 import contextlib
 import dataclasses
+import math
 import time
 import unittest
 from unittest import mock
@@ -140,6 +141,10 @@ class Clients(support.OnADatabase):
                 ((take, 1), {"key": "k" * 1001}, 400, "the key has "),
                 ((refuses, "no tea"), {}, 418, "no tea"),
             ]
+            for delay in (math.nan, math.inf, 1e11):
+                with self.subTest(delay=delay, way=way), self.assertRaises(TerminalError) as raised:
+                    await client.send(refuses, "x", delay=delay)
+                self.assertEqual((raised.exception.code, raised.exception.message), (400, f"the delay is {delay}, and 10000000000 seconds are allowed"))
             for given, named, code, text in cases:
                 with self.subTest(text, way=way), self.assertRaises(TerminalError) as raised:
                     await client.call(*given, **named)

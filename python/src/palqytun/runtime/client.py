@@ -10,7 +10,7 @@ from . import journal, queues, sealing
 from .codec import BadValue, decoded, encoded
 from .desk import Desk, RemoteDesk
 from .effects import awakeable_of
-from .invocations import New
+from .invocations import LONGEST_DELAY, New
 from .services import App, Handler, I, O, TerminalError, to_text_headers
 
 T_co = TypeVar("T_co", covariant=True)
@@ -101,7 +101,7 @@ class Client:
     ) -> Invocation[Any]:
         """Calls a handler, at once or after a delay in seconds, and doesn't wait for it. It is stored when this returns. With the same idempotency key
         the same call is made once. `priority` and `queue_key` are for the handler's `Queue`, if it has one. `TerminalError` with code 404 if nobody serves the
-        handler, and 400 if the key or the argument isn't allowed."""
+        handler, and 400 if the key, the argument or the delay isn't allowed."""
         app, gives = self._desk.app, Any
         service, name = (target.service.name, target.name) if isinstance(target, Handler) else target.partition("/")[::2]
         handler = target if isinstance(target, Handler) else app.services[service].handlers.get(name) if service in app.services else None
@@ -113,6 +113,8 @@ class Client:
             except BadValue as error:
                 raise TerminalError(f"the argument of {handler.path}: {error}", 400) from error
         told = to_text_headers(queues.headers(headers, priority, queue_key))
+        if not delay <= LONGEST_DELAY:  # NaN too
+            raise TerminalError(f"the delay is {delay}, and {LONGEST_DELAY:.0f} seconds are allowed", 400)
         new = New(service, name, key, data, told, idempotency_key, time.time() + delay if delay else 0)
         return Invocation(self, await self._desk.submit(new), gives)
 

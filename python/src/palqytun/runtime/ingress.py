@@ -59,7 +59,6 @@ from .tokens import Tokens, needed
 
 _METHODS = ["GET", "HEAD", "POST", "PUT", "PATCH", "DELETE", "OPTIONS"]
 _LONGEST_WAIT = 3600.0
-_LONGEST_DELAY = 1e10  # seconds, about three centuries
 
 
 @dataclass(frozen=True)
@@ -250,7 +249,7 @@ class Ingress:
         if len(names) != 1 + keyed:
             raise TerminalError(f"the path is /{service}/{'KEY/' if keyed else ''}HANDLER", 404)
         check_name("the handler's name", names[-1])
-        delay = _number(request, "delay", _LONGEST_DELAY)
+        delay = _number(request, "delay", invocations.LONGEST_DELAY)
         key, once = names[0] if keyed else "", request.headers.get("idempotency-key")
         trace = traces.checked(request.headers.get(traces.HEADER))
         told = ((queues.PRIORITY, request.query_params.get("priority")), (queues.KEY, request.query_params.get("queue-key")))

@@ -23,6 +23,7 @@ from .texts import storable
 from .traces import Trace
 from .turns import Turn
 
+LONGEST_DELAY = 1e10  # seconds, about three centuries
 SUSPECT, MOST_LOST = 2, 5  # attempts in a row that are lost with their workers: then an invocation is claimed alone, or not any more
 HANDED_OUT = 1 << 18  # bytes of a key's values that an attempt is handed; the core reads them as text
 VERSION = 7  # of the core's protocol, for new invocations; one that is there keeps its own, for its journal was written by it
