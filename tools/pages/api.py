@@ -81,8 +81,8 @@ def _find(root: Path, module: str, name: str, is_package: bool) -> Found | None:
 
 
 def _signature(node: Function, *, is_method: bool) -> str:
-    """A function's parameters and result, as they are written."""
-    arguments = ast.unparse(node.args)
+    """A function's parameters and result, as they are written, without those that take nothing."""
+    arguments = re.sub(r", \*\w+: Never(, |$)", r", *\1" if node.args.kwonlyargs else r"\1", ast.unparse(node.args))
     if is_method:
         arguments = re.sub(r"^(?:self|cls)(?:, /)?(?:, )?", "", arguments)
     result = f" -> {ast.unparse(node.returns)}" if node.returns else ""

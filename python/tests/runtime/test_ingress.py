@@ -63,8 +63,8 @@ REFUSED = [
     ("/S/%ff", b"1", {}, 400, "the path is no UTF-8"),
     ("/S/none", b"1", {}, 404, "there is no handler S/none"),
     ("/None/echo", b"1", {}, 404, "there is no service None"),
-    ("/S/echo/send/send", b"1", {}, 404, "the path is /S/HANDLER"),
-    ("/O/k", b"1", {}, 404, "the path is /O/KEY/HANDLER"),
+    ("/S/echo/send/send", b"1", {}, 404, "the path is /S/HANDLER, or /S/HANDLER/send, which doesn't wait"),
+    ("/O/k", b"1", {}, 404, "the path is /O/KEY/HANDLER, or /O/KEY/HANDLER/send, which doesn't wait"),
     ("/-/none", b"1", {}, 404, "there is no POST /-/none"),
     ("/S/echo", b"1", {"origin": "http://evil.example"}, 403, "the origin 'http://evil.example' isn't this address"),
     ("/S/echo", b"1", {"origin": "null"}, 403, "the origin 'null' isn't this address"),
@@ -125,6 +125,8 @@ class Refusals(support.OnADatabase):
     async def test_other_methods(self, served):
         for method in ("GET", "PUT", "DELETE", "OPTIONS"):
             self.assertEqual((await served.ask("/S/echo", b"", method))[:2], (405, {"code": 405, "message": f"a handler is called by POST, and not by {method}"}))
+        _, root, *_ = await served.ask("/", b"", "GET")  # the address that a worker prints
+        self.assertEqual(root["message"], "a handler is called by POST, and not by GET; /-/page is the operator's page")
         self.assertEqual((await served.ask("/-/invocations?most=0", method="GET"))[0], 400)
         self.assertEqual((await served.ask("/-/invocations?most=1e3", method="GET"))[0], 400)
         self.assertEqual((await served.ask("/-/invocations?most=10", method="GET"))[0], 200)

@@ -27,6 +27,9 @@ class Thing:
     def grow(self, by: int = 1) -> int:
         """Grows, and returns the size."""
 
+    def close(self, *bare: Never, now: bool = False) -> None:
+        """Ends it. A parameter that takes nothing isn't shown."""
+
     def _hidden(self) -> None:
         """Nobody's."""
 
@@ -50,7 +53,7 @@ class Pages(unittest.TestCase):
 
     def test_each_public_name_with_its_signature(self) -> None:
         text = api.text(self.root)
-        for wanted in ("`Thing(size: int, *, is_open: bool=False)`", "#### `size`", "#### `grow(by: int=1) -> int`", "### `made(size: int) -> Thing`"):
+        for wanted in ("`Thing(size: int, *, is_open: bool=False)`", "#### `size`", "#### `grow(by: int=1) -> int`", "#### `close(*, now: bool=False) -> None`", "### `made(size: int) -> Thing`"):
             self.assertIn(wanted, text)
         self.assertIn("\n    >>> Thing(1).size\n    1", text)
         self.assertNotIn("_hidden", text)

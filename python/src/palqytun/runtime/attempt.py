@@ -34,6 +34,7 @@ T = TypeVar("T")
 log = logging.getLogger("palqytun")
 _LONG = 0.0005  # seconds that a wide tree takes to be asked for
 _FED = 1 << 16  # bytes of a journal that the core is fed at a time
+_FORGOTTEN = 5  # runs and sleeps that a warning names, at most
 _STORED = 256  # frames that are stored together, at most
 _PERFORMED = 64  # of them, if they ask something of the runtime
 
@@ -258,6 +259,8 @@ class Attempt:
             raise
         finally:
             context.end()
+        if main.failure is None and context.forgotten:
+            self._say_forgotten(handler.path, context.forgotten)
         with _handlers_own:
             ends = _ends(context, handler, main)
         has_next = main.continued is not None and isinstance(ends, bytes)
@@ -266,6 +269,13 @@ class Attempt:
             self.claim.continues = Continues(tuple(input.headers), context.signals)
         self._vm.sys_end()
         return None
+
+    def _say_forgotten(self, path: str, forgotten: list[str]) -> None:
+        """Warns of what the handler made and never awaited."""
+        names = ", ".join(dict.fromkeys(forgotten[:_FORGOTTEN]))
+        more = f" and {len(forgotten) - _FORGOTTEN} more" if len(forgotten) > _FORGOTTEN else ""
+        why = "without an await a run isn't executed, and a sleep doesn't wait"
+        log.warning("%s %s has ended, and hasn't awaited %s%s: %s", path, self.claim.invocation, names, more, why)
 
     async def _steps(self, context: Context, tasks: Tasks) -> None:
         """Until the handler is done: its coroutines run, and then what they await is awaited."""

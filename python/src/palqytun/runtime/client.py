@@ -11,7 +11,7 @@ from .codec import BadValue, decoded, encoded
 from .desk import Desk, RemoteDesk
 from .effects import awakeable_of
 from .invocations import LONGEST_DELAY, New
-from .services import App, Handler, I, O, TerminalError, to_text_headers
+from .services import App, Handler, I, O, TerminalError, named, to_text_headers
 
 T_co = TypeVar("T_co", covariant=True)
 
@@ -103,8 +103,8 @@ class Client:
         the same call is made once. `priority` and `queue_key` are for the handler's `Queue`, if it has one. `TerminalError` with code 404 if nobody serves the
         handler, and 400 if the key, the argument or the delay isn't allowed."""
         app, gives = self._desk.app, Any
-        service, name = (target.service.name, target.name) if isinstance(target, Handler) else target.partition("/")[::2]
-        handler = target if isinstance(target, Handler) else app.services[service].handlers.get(name) if service in app.services else None
+        service, name = named(target)
+        handler = target if isinstance(target, Handler) else app.known(service, name)
         data = encoded(app.codec, argument)
         if handler is not None:
             gives = handler.gives

@@ -12,6 +12,7 @@ import dataclasses
 import datetime
 import decimal
 import enum
+import inspect
 import json
 import types
 import typing
@@ -74,6 +75,8 @@ def _plain(value: Any) -> Any:
     dump = getattr(value, "model_dump", None) or getattr(value, "dict", None)  # pydantic 2 and 1
     if callable(dump) and _is_model(type(value)):
         return dump()
+    if inspect.isawaitable(value):
+        raise TypeError(f"a value of type {type(value).__name__} is not JSON: it is to be awaited, and `await` gives its result")
     raise TypeError(f"a value of type {type(value).__name__} is not JSON")
 
 

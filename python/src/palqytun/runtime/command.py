@@ -13,6 +13,7 @@ import json
 import logging
 import os
 import pathlib
+import re
 import sys
 import time
 from collections.abc import Awaitable, Callable
@@ -37,6 +38,7 @@ from .tls import Certificate
 
 
 T = TypeVar("T")
+N = TypeVar("N", int, float)
 log = logging.getLogger("palqytun")
 _MIGRATING = 60.0  # seconds for which a migration is tried that other transactions are in the way of
 _STUCK = 60.0  # seconds after which a worker ends whose loop doesn't reply
@@ -98,6 +100,15 @@ def checked_url(url: str) -> str:
     return url
 
 
+def _without_password(url: str) -> str:
+    """A database's address as it may be shown.
+
+    >>> _without_password("postgresql://ann:secret@db:5432/shop"), _without_password("postgresql://db/shop?user=ann&password=secret")
+    ('postgresql://ann:..@db:5432/shop', 'postgresql://db/shop?user=ann&password=..')
+    """
+    return re.sub(r"(?<=password=)[^&]*", "..", re.sub(r"^(\w+://[^/@]*?):[^@]*@", r"\1:..@", url))
+
+
 def loaded() -> Library:
     """The library."""
     try:
@@ -128,7 +139,7 @@ async def _opened(engine: Engine, opening: _Opening, seconds: float) -> asyncio.
     if not is_open.done() and not running.done():
         engine.stop()
         await running
-        raise Refused(f"the database can't be opened: {opening.why or 'it does not reply'}")
+        raise Refused(f"the database {_without_password(engine.url)} can't be opened: {opening.why or 'it does not reply'}")
     is_open.cancel()
     return running
 
@@ -338,31 +349,26 @@ class _Version(argparse.Action):
         parser.exit()
 
 
-def _seconds(text: str) -> float:
-    """A number of seconds that isn't negative."""
-    number = float(text)
-    if not 0 <= number < 1e12:
-        raise ValueError
-    return number
+def _number(kind: type[N], least: float, most: float, what: str) -> Callable[[str], N]:
+    """Reads an option that is a number of this kind, within these bounds. `what` says which they are."""
+
+    def read(text: str) -> N:
+        try:
+            number = kind(text)
+            if least <= number <= most:
+                return number
+        except ValueError:
+            pass
+        raise argparse.ArgumentTypeError(f"{text!r} is no {what}")
+
+    return read
 
 
-def _count(text: str) -> int:
-    """A number from 1 on."""
-    number = int(text)
-    if number < 1:
-        raise ValueError
-    return number
-
-
-def _parts(text: str) -> int:
-    """A number of partitions."""
-    number = _count(text)
-    if number > partitions.MOST:
-        raise ValueError
-    return number
-
-
-_seconds.__name__, _count.__name__, _parts.__name__ = "number of seconds", "number from 1 on", f"number from 1 to {partitions.MOST}"  # argparse says so
+_seconds = _number(float, 0, 1e12, "number of seconds from 0 on")
+_lease = _number(float, 0.1, 1e9, "number of seconds from 0.1 on")  # a worker keeps it each third of it
+_count = _number(int, 1, sys.maxsize, "whole number from 1 on")
+_parts = _number(int, 1, partitions.MOST, f"whole number from 1 to {partitions.MOST}")
+_port = _number(int, -1, 0xFFFF, "port: it is from 1 to 65535, 0 is a free one, and -1 is no ingress")
 _APP = "FILE.py, FILE.py:NAME or MODULE:NAME; without a name it has to have one App"
 
 
@@ -370,7 +376,7 @@ class _Help(argparse.ArgumentDefaultsHelpFormatter):
     """Says what an option is without it, unless that is nothing."""
 
     def _get_help_string(self, action: argparse.Action) -> str | None:
-        return action.help if action.default in (None, [], argparse.SUPPRESS) else super()._get_help_string(action)
+        return action.help if action.default in (None, "", [], argparse.SUPPRESS) else super()._get_help_string(action)
 
 
 def _run_options(one: argparse.ArgumentParser) -> None:
@@ -380,7 +386,7 @@ def _run_options(one: argparse.ArgumentParser) -> None:
     of.add_argument("--version", default="", help="the version of the app's code; without it, a hash of the files that define its handlers")
     of.add_argument("--limit", type=_count, default=500, help="attempts at once")
     of.add_argument("--idle", type=_seconds, default=1.0, help="seconds until an attempt that waits is suspended")
-    of.add_argument("--lease", type=_seconds, default=10.0, help="seconds until a worker that isn't heard of is thought dead")
+    of.add_argument("--lease", type=_lease, default=10.0, help="seconds until a worker that isn't heard of is thought dead")
     of.add_argument("--keep", type=_seconds, help="seconds until an invocation that has ended is purged; without it, none is")
     of.add_argument("--effects", type=_count, default=1000, help="runs of async functions that are executed at once")
     of.add_argument("--threads", type=_count, default=64, help="runs of plain functions that are executed at once, each in a thread")
@@ -391,7 +397,7 @@ def _run_options(one: argparse.ArgumentParser) -> None:
     of.add_argument("--redact", action="append", default=[], metavar="REGEX", help="what this finds in the log is shown as [redacted]; may be repeated")
     of = one.add_argument_group("the ingress")
     of.add_argument("--host", default="127.0.0.1", help="where it listens; another than 127.0.0.1, ::1 and localhost needs a token")
-    of.add_argument("--port", type=int, default=8080, help="0 is a free one, and -1 is no ingress")
+    of.add_argument("--port", type=_port, default=8080, help="0 is a free one, and -1 is no ingress")
     of.add_argument("--tls-certificate", metavar="FILE", help="speak TLS alone, with this certificate and those above it, in the form PEM")
     of.add_argument("--tls-key", metavar="FILE", help="its private key; both files are read again when they change")
     of.add_argument("--origin", action="append", default=[], help="an address by which browsers know it, as https://ops.example; may be repeated")

@@ -24,11 +24,11 @@ from typing import TYPE_CHECKING, Any, Concatenate, NoReturn, ParamSpec, TypeVar
 from .. import core
 from . import attributes, queues, sealing
 from .codec import BadValue, Codec, decoded, encoded
-from .durable import ContinuedAsNew, Durable, Leaf, Task, Timer, select
+from .durable import ContinuedAsNew, Durable, Leaf, Run, Task, Timer, select
 from .journal import CONTINUED, OWN, PATCHED, attribute
 from .names import check_name
 from .parting import Asked
-from .services import App, Handler, I, O, Retry, TerminalError, TimedOut, to_text_headers
+from .services import App, Handler, I, O, Retry, TerminalError, TimedOut, named, to_text_headers
 from .steps import Step
 from .tasks import Tasks
 from .traces import Trace
@@ -90,6 +90,14 @@ def _check_names(service: str, handler: str, key: str | None, idempotency_key: s
     """`TerminalError` with code 400 for a call that no database can store."""
     for what, name in (("the service's name", service), ("the handler's name", handler), ("the key", key), ("the idempotency key", idempotency_key)):
         check_name(what, name or "")
+
+
+def _check_name_of_run(call: str, name: object) -> None:
+    """`TypeError` for a run that has no name, as when its function stands first."""
+    if not isinstance(name, str):
+        function = getattr(name, "__name__", "pay") if callable(name) else "pay"
+        own = function if function.isidentifier() else "pay"
+        raise TypeError(f"ctx.{call} takes a name and then a function, as ctx.{call}({own!r}, {own}), or a `step` alone; and its name isn't {name!r}")
 
 
 def given_failure(error: TerminalError, codec: Codec) -> core.Failure:
@@ -210,6 +218,7 @@ class Context:
         self._slept = 0
         self.left: list[int] = []  # sleeps, by their numbers in this invocation, that nobody can await any more
         self.asked = set[int]()  # handles of runs whose execution hasn't begun
+        self.forgotten: list[str] = []  # runs and sleeps that the handler has made and never awaited
         self.awakeables: dict[str, Callable[[Any], Any]] = {}  # by id: what reads the value
         self.tasks: Tasks | None = None
         self.refused: BaseException | None = None
@@ -385,7 +394,7 @@ class Context:
         """Ends after this number of seconds, across crashes."""
         handle = self._vm_call("sys_sleep", max(0, _ms(time.time() + seconds)))
         self._slept += 1
-        return Timer(handle, self._slept - 1, self._leave)
+        return Timer(handle, self._slept - 1, self._leave, self.forgotten.append)
 
     def _leave(self, number: int) -> None:
         self.left.append(number)
@@ -414,6 +423,7 @@ class Context:
         the function's annotation doesn't say it. A `step` has name, retries and time limit of its own: `ctx.run(pay, order)`."""
         if isinstance(what, Step):
             return self._run(what, given, named, None)
+        _check_name_of_run("run", what)
         retry, timeout, beats, gives = (named.pop(it, None) for it in ("retry", "timeout", "heartbeat", "gives"))
         function = given[0] if given else None
         if isinstance(function, Step):
@@ -447,6 +457,7 @@ class Context:
         """
         step = what
         if not isinstance(what, Step):
+            _check_name_of_run("transaction", what)
             step, given = Step(given[0] if given else None, what), given[1:]
         if not inspect.iscoroutinefunction(step.function):
             raise TypeError(f"ctx.transaction({step.name!r}, ..) takes an `async` function, whose first argument is the transaction, and not {step.function!r}")
@@ -472,7 +483,7 @@ class Context:
         action = Action(step.name, function, given, policy, key, index, step.timeout, step.heartbeat, is_transaction, step.retry or Retry())
         self.actions[run.handle] = action
         self.asked.add(run.handle)
-        return Leaf(run.handle, self._result(_result_of(step.function) if gives is None else gives))
+        return Run(run.handle, self._result(_result_of(step.function) if gives is None else gives), step.name, self.forgotten.append)
 
     def uuid(self) -> str:
         """A random UUID, the same in each attempt."""
@@ -581,11 +592,8 @@ class Context:
 
     def _target(self, target: Handler[Any, Any] | str) -> tuple[str, str, Any]:
         """Service, name, and the type of the result."""
-        if isinstance(target, Handler):
-            return target.service.name, target.name, target.gives
-        service, _, name = target.partition("/")
-        known = self._app.services.get(service)
-        handler = known.handlers.get(name) if known is not None else None
+        service, name = named(target)
+        handler = target if isinstance(target, Handler) else self._app.known(service, name)
         return service, name, Any if handler is None else handler.gives
 
     def call(

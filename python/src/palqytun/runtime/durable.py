@@ -2,6 +2,7 @@
 
 from __future__ import annotations
 
+import asyncio
 from collections.abc import Callable, Coroutine, Generator, Iterator
 from typing import Any, Generic, TypeVar
 
@@ -19,7 +20,10 @@ class NotDurable(TypeError):
 class Durable(Generic[T_co]):
     """Something that the journal gives. `await` gives its result, or raises its failure."""
 
+    is_used = False  # it was awaited, or is part of what may be
+
     def __await__(self) -> Generator[Durable[Any], None, T_co]:
+        self.is_used = True
         if self.outcome() is None:
             yield self
         return self.result()
@@ -67,16 +71,31 @@ class Leaf(Durable[T]):
         yield self
 
 
-class Timer(Leaf[None]):
-    """The end of a sleep. `left` gets its number when nobody can await it any more, and it hasn't come: as when a `select` had another first."""
+class Run(Leaf[T]):
+    """The result of a run. `forgot` gets its name when nobody can await it any more, and nobody has: so it wasn't executed."""
 
-    def __init__(self, handle: int, number: int, left: Callable[[int], None]):
+    def __init__(self, handle: int, read: Callable[[Any], T], name: str, forgot: Callable[[str], None]):
+        super().__init__(handle, read)
+        self._name, self._forgot = name, forgot
+
+    def __del__(self) -> None:
+        if not self.is_used:
+            self._forgot(f"the run {self._name[:100]!r}")
+
+
+class Timer(Leaf[None]):
+    """The end of a sleep. `left` gets its number when nobody can await it any more, and it hasn't come: as when a `select` had another first. `forgot` is
+    called too if nobody has awaited it at all."""
+
+    def __init__(self, handle: int, number: int, left: Callable[[int], None], forgot: Callable[[str], None]):
         super().__init__(handle, lambda came: None)
-        self._number, self._left = number, left
+        self._number, self._left, self._forgot = number, left, forgot
 
     def __del__(self) -> None:
         if self.came is None:
             self._left(self._number)
+            if not self.is_used:
+                self._forgot("a sleep")
 
 
 class _Over(Durable[T]):
@@ -88,6 +107,7 @@ class _Over(Durable[T]):
         for child in children:
             if not isinstance(child, Durable):
                 raise NotDurable(f"what the context gives can be combined, and not {child!r}")
+            child.is_used = True
         self.children = children
 
     def tree(self) -> int | core.Future | None:
@@ -188,6 +208,13 @@ class ContinuedAsNew(BaseException):
         self.argument = argument
 
 
+def _instead(awaited: object) -> str:
+    """What a handler does instead of awaiting this."""
+    if isinstance(awaited, asyncio.Future):
+        return "gather, select and wait_any of palqytun.runtime combine these, ctx.sleep sleeps, and other work belongs in ctx.run"
+    return "other work belongs in ctx.run"
+
+
 class Task(Durable[T]):
     """A coroutine of the handler, which awaits durables. The handler itself is one."""
 
@@ -227,7 +254,7 @@ class Task(Durable[T]):
                 self.done, self.continued = True, continued
             else:
                 if not isinstance(self.waits, Durable):
-                    raise NotDurable(f"a handler awaits what its context gives, and not {self.waits!r}; other work stands in ctx.run")
+                    raise NotDurable(f"a handler awaits what its context gives, and not {self.waits!r}; {_instead(self.waits)}")
                 if self.waits.outcome() is None:
                     return
             thrown = None

@@ -223,7 +223,8 @@ class Ingress:
         if parts[0] == "-":
             raise HTTPException(404)
         if request.method != "POST":
-            return _fault(405, f"a handler is called by POST, and not by {request.method}")
+            page = f"; {request.scope.get('root_path', '')}/-/page is the operator's page" if parts == ("",) else ""
+            return _fault(405, f"a handler is called by POST, and not by {request.method}{page}")
         new, is_sent = await self._called(request, *parts)
         wait = _number(request, "wait", _LONGEST_WAIT)
         argument = await self._body(request)
@@ -247,7 +248,8 @@ class Ingress:
         is_sent = len(rest) == 2 + keyed and rest[-1] == "send"
         names = rest[:-1] if is_sent else rest
         if len(names) != 1 + keyed:
-            raise TerminalError(f"the path is /{service}/{'KEY/' if keyed else ''}HANDLER", 404)
+            path = f"/{service}/{'KEY/' if keyed else ''}HANDLER"
+            raise TerminalError(f"the path is {path}, or {path}/send, which doesn't wait", 404)
         check_name("the handler's name", names[-1])
         delay = _number(request, "delay", invocations.LONGEST_DELAY)
         key, once = names[0] if keyed else "", request.headers.get("idempotency-key")

@@ -12,7 +12,7 @@ import random
 import typing
 from collections.abc import Awaitable, Callable, Iterable, Mapping
 from dataclasses import dataclass, field
-from typing import TYPE_CHECKING, Any, Generic, TypeVar
+from typing import TYPE_CHECKING, Any, Generic, Never, TypeVar
 
 from . import headers as request_headers
 from .codec import Codec, JsonCodec, decoded, encoded
@@ -138,6 +138,7 @@ class Retry:
 
 
 ATTEMPTS = Retry(attempts=50, pause=True)  # of a handler that says nothing else
+_LIMITS_OF_TIME = ("timeout", "queue_timeout", "attempt_timeout")
 
 
 @dataclass
@@ -160,29 +161,56 @@ class Handler(Generic[I, O]):
     gives: Any = Any
 
     def __post_init__(self) -> None:
+        self._check_kinds()
         if self.limit is not None and self.limit < 1:
             raise ValueError(f"{self.path} has the limit {self.limit}, so it would never run")
         if self.limit is not None and self.queue is not None:
             raise ValueError(f"{self.path} has a limit and a queue: give the queue the concurrency {self.limit}")
-        for name in ("timeout", "queue_timeout", "attempt_timeout"):
+        for name in _LIMITS_OF_TIME:
             seconds = getattr(self, name)
             if seconds is not None and not 0 < seconds < math.inf:
                 raise ValueError(f"{self.path} has the {name} {seconds}, and it is a number of seconds above 0")
+
+    def _check_kinds(self) -> None:
+        """`TypeError` for an option of another kind than is wanted."""
+        if not isinstance(self.retry, Retry):
+            raise TypeError(f"{self.path} has the retry {self.retry!r}, and it is a Retry, as Retry(attempts=5)")
+        if self.queue is not None and not hasattr(self.queue, "limits"):
+            raise TypeError(f"{self.path} has the queue {self.queue!r}, and it is a Queue, as Queue('mail', concurrency=10)")
+        for name in ("limit", *_LIMITS_OF_TIME):
+            it = getattr(self, name)
+            if it is not None and (isinstance(it, bool) or not isinstance(it, (int, float))):
+                raise TypeError(f"{self.path} has the {name} {it!r}, and it is a number")
 
     @property
     def path(self) -> str:
         return f"{self.service.name}/{self.name}"
 
+    if not TYPE_CHECKING:  # for a type checker it can't be called
 
-def _types_of(function: Callable[..., Any]) -> tuple[Any, Any, int]:
-    """What a handler's annotations say of its argument and its result, and how many parameters it has."""
-    parameters = list(inspect.signature(function).parameters.values())
+        def __call__(self, *arguments: object, **named: object) -> None:
+            raise TypeError(f"{self.path} isn't called as a function: a handler calls it by `ctx.call({self.name}, ..)`, and a test by palqytun.testing")
+
+
+_BY_POSITION = (inspect.Parameter.POSITIONAL_ONLY, inspect.Parameter.POSITIONAL_OR_KEYWORD)
+
+
+def _without_types(signature: inspect.Signature) -> inspect.Signature:
+    """The names of a function's parameters, as they are given."""
+    plain = [it.replace(annotation=inspect.Parameter.empty) for it in signature.parameters.values()]
+    return inspect.Signature(plain)
+
+
+def _types_of(function: Callable[..., Any]) -> tuple[Any, Any, inspect.Signature]:
+    """What a handler's annotations say of its argument and its result, and its parameters."""
+    signature = inspect.signature(function)
+    parameters = list(signature.parameters.values())
     try:
         hints = typing.get_type_hints(function)
     except NameError:  # a name that is only there for the type checker
         hints = {}
     takes = hints.get(parameters[1].name, Any) if len(parameters) > 1 else Any
-    return takes, hints.get("return", Any), len(parameters)
+    return takes, hints.get("return", Any), signature
 
 
 def _source(function: Callable[..., Any]) -> bytes:
@@ -202,14 +230,21 @@ class Service:
     keyed = False
     workflow = False
 
-    def _add(self, exclusive: bool, **options: Any) -> Callable[[Function[I, O]], Handler[I, O]]:
+    def __post_init__(self) -> None:
+        if not isinstance(self.name, str) or not self.name or "/" in self.name or self.name == "-":
+            raise ValueError(f"a service has a name without /, as Service('Shop'), and {self.name!r} is none")
+
+    def _add(self, exclusive: bool, bare: tuple[object, ...], **options: Any) -> Callable[[Function[I, O]], Handler[I, O]]:
+        if bare:
+            raise TypeError(f"a handler of {self.name} is registered by a call: @{self.name.lower()}.handler(), with brackets; its options have names")
+
         def added(function: Function[I, O]) -> Handler[I, O]:
             name = function.__name__
             if not inspect.iscoroutinefunction(function):
                 raise TypeError(f"{self.name}/{name} is no `async def`")
-            takes, gives, count = _types_of(function)
-            if count != 2:
-                raise TypeError(f"{self.name}/{name} takes {count} parameters; a handler takes the context and its argument")
+            takes, gives, signature = _types_of(function)
+            if len(signature.parameters) != 2 or any(it.kind not in _BY_POSITION for it in signature.parameters.values()):
+                raise TypeError(f"{self.name}/{name} takes {_without_types(signature)}; a handler takes its context and one argument, both by position")
             if name in self.handlers:
                 raise ValueError(f"{self.name} has two handlers with the name {name}")
             self.handlers[name] = handler = Handler(self, name, function, exclusive, takes=takes, gives=gives, **options)
@@ -217,11 +252,11 @@ class Service:
 
         return added
 
-    def handler(self, **options: Any) -> Callable[[Callable[[ServiceContext, I], Awaitable[O]]], Handler[I, O]]:
+    def handler(self, *bare: Never, **options: Any) -> Callable[[Callable[[ServiceContext, I], Awaitable[O]]], Handler[I, O]]:
         """Registers a handler under its function's name. `retry` says when its attempts are tried again, and `limit` how many of them may run
         at once; `queue` is a `Queue`, with limits of more kinds. An invocation that hasn't ended `timeout` seconds after it was due, or hasn't begun within `queue_timeout`, ends with code 408, and its
         calls are cancelled. An attempt that takes longer than `attempt_timeout` has failed, and is tried again."""
-        return self._add(self.keyed and not self.workflow, **options)
+        return self._add(self.keyed and not self.workflow, bare, **options)
 
 
 class VirtualObject(Service):
@@ -229,13 +264,13 @@ class VirtualObject(Service):
 
     keyed = True
 
-    def handler(self, **options: Any) -> Callable[[Callable[[ObjectContext, I], Awaitable[O]]], Handler[I, O]]:  # type: ignore[override]
+    def handler(self, *bare: Never, **options: Any) -> Callable[[Callable[[ObjectContext, I], Awaitable[O]]], Handler[I, O]]:  # type: ignore[override]
         """Registers a handler that runs alone beside the others of its key, and may change the state."""
-        return self._add(self.keyed and not self.workflow, **options)
+        return self._add(self.keyed and not self.workflow, bare, **options)
 
-    def shared(self, **options: Any) -> Callable[[Callable[[SharedObjectContext, I], Awaitable[O]]], Handler[I, O]]:
+    def shared(self, *bare: Never, **options: Any) -> Callable[[Callable[[SharedObjectContext, I], Awaitable[O]]], Handler[I, O]]:
         """Registers a handler that reads the state and doesn't wait for others of its key."""
-        return self._add(False, **options)
+        return self._add(False, bare, **options)
 
 
 class Workflow(VirtualObject):
@@ -243,13 +278,23 @@ class Workflow(VirtualObject):
 
     workflow = True
 
-    def handler(self, **options: Any) -> Callable[[Callable[[SharedWorkflowContext, I], Awaitable[O]]], Handler[I, O]]:  # type: ignore[override]
+    def handler(self, *bare: Never, **options: Any) -> Callable[[Callable[[SharedWorkflowContext, I], Awaitable[O]]], Handler[I, O]]:  # type: ignore[override]
         """Registers a handler that runs beside `main`: it reads the state and completes promises."""
-        return self._add(False, **options)
+        return self._add(False, bare, **options)
 
-    def main(self, **options: Any) -> Callable[[Callable[[WorkflowContext, I], Awaitable[O]]], Handler[I, O]]:
+    def main(self, *bare: Never, **options: Any) -> Callable[[Callable[[WorkflowContext, I], Awaitable[O]]], Handler[I, O]]:
         """Registers the handler that runs once a key."""
-        return self._add(True, **options)
+        return self._add(True, bare, **options)
+
+
+def named(target: Handler[Any, Any] | str) -> tuple[str, str]:
+    """The service and the name of what is called. `TerminalError` with code 400 for what is no handler, and no "Service/handler"."""
+    if isinstance(target, Handler):
+        return target.service.name, target.name
+    service, slash, name = target.partition("/") if isinstance(target, str) else ("", "", "")
+    if not (service and slash and name):
+        raise TerminalError(f"{target!r} is no handler: it is one that `@service.handler()` has made, or a text as 'Service/handler'", 400)
+    return service, name
 
 
 class App:
@@ -259,6 +304,8 @@ class App:
     def __init__(self, *services: Service, codec: Codec | None = None, schedules: Iterable[Schedule] = (), headers: Iterable[str] = ()):
         self.services: dict[str, Service] = {}
         for it in services:
+            if not isinstance(it, Service):
+                raise TypeError(f"an app has services, objects and workflows, as App(Service('Shop')), and not {it!r}")
             if it.name in self.services:
                 raise ValueError(f"there are two services with the name {it.name}")
             self.services[it.name] = it

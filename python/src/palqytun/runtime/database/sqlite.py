@@ -14,7 +14,7 @@ from collections.abc import Callable, Iterable, Sequence
 from types import TracebackType
 from typing import Any, TextIO
 
-from . import Asked, Beats, Claiming, Conflict, Each, Full, Lost, Reading, StatementFailed
+from . import Asked, Beats, Claiming, Conflict, Each, Full, Lost, Reading, StatementFailed, Unsuitable
 from .schema import VERSIONS, failed, missing
 
 _READ = 1000  # rows that are read in one step
@@ -112,6 +112,11 @@ class SQLite:
         except Conflict as error:
             self._unlock()
             raise Lost(f"another program has locked {path} for {_OPENING:g} seconds") from error
+        except Lost as error:
+            self._unlock()
+            if getattr(error.__cause__, "sqlite_errorcode", None) == sqlite3.SQLITE_NOTADB:
+                raise Unsuitable(f"{path} is a file, and no SQLite database") from error
+            raise
         except BaseException:
             self._unlock()
             raise
