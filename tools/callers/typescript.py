@@ -20,7 +20,7 @@ A_KILL = 60  # seconds that a kill, and what goes on after it, may take on a bus
 
 
 def typescript(it: Bindings) -> None:
-    """Builds the SDK with strict types, runs its tests and README's example, and kills workers of both languages."""
+    """Builds the SDK with strict types, runs its tests, README's example and the guide, and kills workers of both languages."""
     it.checks.tell(protocol.MODULE, protocol.check(TOP))
     if not it.checks.has("the SDK in TypeScript", "node", "node-api", "typescript", "node-pg"):
         return
@@ -31,7 +31,16 @@ def typescript(it: Bindings) -> None:
     tests = sorted(str(one) for one in Path(folder, "out/test").glob("*.test.js"))
     it.counted("tests of typescript", beside_a_database(*command(tests)), env)
     example(it, env, folder)
+    guided(it, env)
     killed(it, env, folder)
+
+
+def guided(it: Bindings, env: dict[str, str]) -> None:
+    """Does what docs/TYPESCRIPT.md says, line by line, beside a database."""
+    run = f"DATABASE=\"$PALQYTUN_TEST_POSTGRES\" exec {sys.executable} tools/tutorial --library {it.library} docs/TYPESCRIPT.md"
+    ran = ended(beside_a_database("sh", "-c", run), env, None, SECONDS)
+    found = ran.output.rstrip().rpartition("\n")[2]
+    it.checks.tell("what docs/TYPESCRIPT.md shows", None if ran.status == 0 and ", 0 failed, 0 skipped" in found else ran.shown(), f": {found}")
 
 
 def killed(it: Bindings, env: dict[str, str], folder: str) -> None:

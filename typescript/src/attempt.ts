@@ -69,7 +69,8 @@ type Executed =
 type Ending = { readonly value: unknown } | { readonly thrown: unknown } | undefined;
 
 export const LONGEST_TIMER = 2 ** 31 - 1; // milliseconds, after which a timer would fire at once
-const FOREIGN = "something that its context didn't give: other work stands in ctx.run";
+const FORGOTTEN = 5; // runs and sleeps that a warning names, at most
+const FOREIGN = "something that its context didn't give: other work belongs in ctx.run";
 
 export class Attempt {
   status: Status | 'lost' = 'lost';
@@ -244,6 +245,7 @@ export class Attempt {
     if (isCaught) return this.#fails(new Error('the handler caught what ctx.continueAsNew throws: it has to be thrown again'));
     if (continues !== undefined) return this.#goesOn(context, handler, continues.argument);
     if ('value' in ending) {
+      this.#saysForgotten(`${handler.service}/${handler.name}`, context.forgotten);
       let value: Uint8Array;
       try {
         value = this.#codec.encode(ending.value);
@@ -254,6 +256,14 @@ export class Attempt {
     }
     if (!isOf(ending.thrown, TerminalError)) return this.#fails(ending.thrown);
     context.write(failureOf(this.#codec, ending.thrown));
+  }
+
+  /** Warns of what the handler has made and never awaited. */
+  #saysForgotten(path: string, forgotten: readonly string[]): void {
+    if (forgotten.length === 0) return;
+    const more = forgotten.length > FORGOTTEN ? ` and ${forgotten.length - FORGOTTEN} more` : '';
+    const names = [...new Set(forgotten.slice(0, FORGOTTEN))].join(', ');
+    this.host.log.warning(`${path} ${this.claim.id} has ended, and hasn't awaited ${names}${more}: without an await a run isn't executed, and a sleep doesn't wait`);
   }
 
   /** The invocation goes on as a new one, if its handler takes the argument. */

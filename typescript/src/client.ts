@@ -6,7 +6,7 @@ import { CHANNEL } from './database';
 import { Lost } from './tables';
 import type { Ends, Place, Statements, Store } from './tables';
 import { deliver, newest, send } from './delivery';
-import { BadValue, TerminalError, Unavailable, shown } from './errors';
+import { BadValue, TerminalError, Unavailable, checkUrl, shown } from './errors';
 import { CANCEL, VOID, awakeableOf, failure, failureIn, valueIn } from './frames';
 import { checkedTrace } from './hash';
 import { create } from './invocations';
@@ -16,7 +16,7 @@ import { withQueue } from './queues';
 import type { Queued } from './queues';
 import { JSON_CODEC } from './sealing';
 import type { Codec } from './sealing';
-import { servicesOf } from './services';
+import { namesOf, servicesOf } from './services';
 import type { About, AnyService, Fixed, Handler } from './services';
 import { PAYLOAD, checkId, checkName, checkPayload } from './values';
 import type { Parse } from './values';
@@ -78,6 +78,7 @@ export class Client {
 
   /** Connects to a database, which has the tables of Palqytun. */
   static async connect({ url, services = [], payload = PAYLOAD, codec = JSON_CODEC }: ClientOptions): Promise<Client> {
+    checkUrl(url);
     const place = new Postgres(url, new Log());
     const served = servicesOf(services);
     const found = new Client(await place.open(CONNECTIONS), served, payload, codec);
@@ -147,7 +148,7 @@ export class Client {
   async send<I, O>(callee: Handler<I, O>, argument: Fixed<I>, options?: ClientCall): Promise<Sent<O>>;
   async send<O = unknown>(callee: string, argument?: unknown, options?: ClientCall): Promise<Sent<O>>;
   async send<I, O>(callee: Handler<I, O> | string, argument?: I, options: ClientCall = {}): Promise<Sent<O>> {
-    const [service, handler] = typeof callee === 'string' ? parts(callee) : [callee.service, callee.name];
+    const [service, handler] = namesOf(callee);
     const data = this.codec.encode(argument);
     checkPayload('the argument', data.length, this.payload);
     checkName("the service's name", service);
@@ -246,12 +247,6 @@ export class Client {
       },
     };
   }
-}
-
-/** What stands before the first slash, and what stands behind it. */
-function parts(path: string): [service: string, handler: string] {
-  const at = path.indexOf('/');
-  return at < 0 ? [path, ''] : [path.slice(0, at), path.slice(at + 1)];
 }
 
 async function looked(to: Statements, id: string): Promise<Uint8Array | undefined> {

@@ -11,7 +11,7 @@ import { Random } from './random';
 import { withQueue } from './queues';
 import type { Queued } from './queues';
 import type { Codec } from './sealing';
-import { JITTER, checkRetry } from './services';
+import { JITTER, checkRetry, namesOf } from './services';
 import type { Fixed, Handler, Retry } from './services';
 import { attributeOf, checkName } from './values';
 import type { Parse } from './values';
@@ -139,6 +139,7 @@ export class Context implements Scope {
   readonly #begun: Begun;
   readonly #random: Random;
   readonly #waiters = new Set<Waiter>();
+  readonly #unused = new Map<Durable<unknown>, string>(); // runs and sleeps that nobody has awaited
   readonly #isPatched = new Map<string, boolean>();
   readonly #log: ReplayLog;
   #shields = 0;
@@ -218,8 +219,18 @@ export class Context implements Scope {
     return this.#shields > 0;
   }
 
+  uses(durable: Durable<unknown>): void {
+    this.#unused.delete(durable);
+  }
+
+  /** What the handler has made and never awaited. @internal */
+  get forgotten(): string[] {
+    return [...this.#unused.values()];
+  }
+
   /** What `await` asks of a durable that is this context's. */
   waits(waiter: Waiter): void {
+    this.#unused.delete(waiter.durable);
     if (this.#isOver) return; // it is never settled
     this.#own('what the context gives');
     if (waiter.durable.outcome() !== undefined) waiter.settle();
@@ -330,7 +341,9 @@ export class Context implements Scope {
   /** Ends after this number of milliseconds, across crashes. */
   sleep(milliseconds: number): Durable<null> {
     if (typeof milliseconds !== 'number' || !(milliseconds < 1e15)) throw new TypeError(`ctx.sleep takes a number of milliseconds below 10^15, not ${shown(milliseconds)}`);
-    return this.leaf((vm) => vm.sysSleep(Math.max(0, Math.ceil(Date.now() + milliseconds))), nothing);
+    const made = this.leaf((vm) => vm.sysSleep(Math.max(0, Math.ceil(Date.now() + milliseconds))), nothing);
+    this.#unused.set(made, 'a sleep');
+    return made;
   }
 
   /**
@@ -340,7 +353,8 @@ export class Context implements Scope {
    * again.
    */
   run<T>(name: string, does: (run: Run) => T | PromiseLike<T>, options: RunOptions<T> = {}): Durable<T> {
-    if (typeof does !== 'function') throw new TypeError(`ctx.run(${JSON.stringify(name)}, ..) takes a function, not ${typeof does}`);
+    if (typeof name === 'function') throw new TypeError("ctx.run takes a name and then a function, as ctx.run('pay', () => pay(order))");
+    if (typeof does !== 'function') throw new TypeError(`ctx.run(${shown(name)}, ..) takes a function, not ${typeof does}`);
     if (typeof name !== 'string' || name.startsWith(OWN)) throw new TypeError(`a run's name must be a string that doesn't begin with ${OWN}, not ${shown(name)}`);
     if (options.retry !== undefined) checkRetry(`the retry of the run ${name}`, options.retry);
     for (const it of ['timeout', 'heartbeat'] as const) {
@@ -355,7 +369,9 @@ export class Context implements Scope {
       this.actions.set(handle, { name, does, policy: policyOf(retry), jitter: retry?.jitter ?? JITTER, key, index, timeout, heartbeat });
       this.asked.add(handle);
     }
-    return new Leaf(this, handle ?? 0, this.results(options.gives));
+    const made = new Leaf(this, handle ?? 0, this.results(options.gives));
+    this.#unused.set(made, `the run ${shown(name)}`);
+    return made;
   }
 
   /** The time in milliseconds since the epoch, as it was when this was first awaited. */
@@ -453,7 +469,7 @@ export class Context implements Scope {
   // ---- other handlers
 
   #target(callee: Callee<never, unknown>, options: CallOptions): Target {
-    const [service, handler] = typeof callee === 'string' ? parts(callee) : [callee.service, callee.name];
+    const [service, handler] = namesOf(callee);
     checkName("the service's name", service);
     checkName("the handler's name", handler);
     if (options.key !== undefined) checkName('the key', options.key);
@@ -519,12 +535,6 @@ export class Context implements Scope {
     const data = given(this.codec, value);
     this.#tells((vm) => vm.sysCompleteSignal(invocationId, name, data));
   }
-}
-
-function parts(path: string): [string, string] {
-  const [service, name, ...more] = path.split('/');
-  if (!service || !name || more.length > 0) throw new TypeError(`a handler is named as Service/handler, not ${shown(path)}`);
-  return [service, name];
 }
 
 /** That of a service's handlers: they have no key. */

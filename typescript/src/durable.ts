@@ -16,6 +16,8 @@ export interface Waiter {
 /** Whose durables these are: the attempt keeps who waits. */
 export interface Scope {
   waits(waiter: Waiter): void;
+  /** It is part of what may be awaited. */
+  uses(durable: Durable<unknown>): void;
 }
 
 /** Something that the journal gives. `await` gives its result, or throws its failure. It may be awaited more than once. */
@@ -111,6 +113,7 @@ abstract class Over<T> extends Durable<T> {
     }
     super(given.find((it) => it['scope'] !== undefined)?.['scope']);
     this.children = [...given];
+    for (const it of given) it['scope']?.uses(it);
   }
 
   tree(): Future {

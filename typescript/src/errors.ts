@@ -112,6 +112,11 @@ export function shown(value: unknown): string {
   return value === null ? 'null' : Array.isArray(value) ? 'an array' : typeof value;
 }
 
+/** Refuses what is no address of a PostgreSQL database. */
+export function checkUrl(url: unknown): void {
+  if (typeof url !== 'string' || !/^postgres(ql)?:\/\//.test(url)) throw new TypeError(`url must be that of a PostgreSQL database, as postgresql://.., not ${shown(url)}`);
+}
+
 /** What something that was thrown says. It is text for each value, also for one whose own text can't be made. */
 export function said(thrown: unknown): string {
   try {

@@ -53,9 +53,10 @@ export class Queue {
   }
 }
 
-function isRate(rate: readonly unknown[]): boolean {
-  const [count, milliseconds] = rate as readonly [number, number];
-  return Array.isArray(rate) && rate.length === 2 && Number.isInteger(count) && count >= 1 && milliseconds > 0 && milliseconds < Infinity;
+function isRate(rate: unknown): boolean {
+  if (!Array.isArray(rate) || rate.length !== 2) return false;
+  const [count, milliseconds] = rate as [number, number];
+  return Number.isInteger(count) && count >= 1 && milliseconds > 0 && milliseconds < Infinity;
 }
 
 const PRIORITY = 'palqytun-priority';

@@ -2,7 +2,7 @@
 
 import { createHash } from 'node:crypto';
 import type { ObjectContext, ServiceContext, SharedObjectContext, SharedWorkflowContext, WorkflowContext } from './context';
-import { shown } from './errors';
+import { TerminalError, shown } from './errors';
 import { Queue } from './queues';
 import type { Parse } from './values';
 
@@ -99,6 +99,7 @@ const TIMES = ['initial', 'longest', 'duration'] as const;
 
 /** Refuses a policy that has no meaning. */
 export function checkRetry(what: string, retry: Retry): void {
+  if (retry === null || typeof retry !== 'object') throw new TypeError(`${what} must be an object, as { attempts: 5 }, not ${shown(retry)}`);
   for (const name of TIMES) {
     const time = retry[name];
     if (time !== undefined && !(time >= 0 && time < Infinity)) throw new RangeError(`${what}: ${name} must be a number of milliseconds from 0, not ${shown(time)}`);
@@ -137,7 +138,7 @@ function limitsOf(path: string, it: Omit<HandlerOptions<never>, 'takes' | 'retry
   if (limit !== undefined && queue !== undefined) throw new RangeError(`${path} has a limit and a queue: give the queue the concurrency ${limit}`);
   for (const name of LIMITS) {
     const time = it[name];
-    if (time !== undefined && !(time > 0 && time < Infinity)) throw new RangeError(`the ${name} of ${path} must be a number of milliseconds above 0, not ${shown(time)}`);
+    if (time !== undefined && !(typeof time === 'number' && time > 0 && time < Infinity)) throw new RangeError(`the ${name} of ${path} must be a number of milliseconds above 0, not ${shown(time)}`);
   }
   return { limit, queue, timeout, queueTimeout, attemptTimeout };
 }
@@ -163,7 +164,8 @@ export function main<I, O>(run: Run<WorkflowContext, I, O>, options: HandlerOpti
 }
 
 function served<G>(name: string, keyed: boolean, workflow: boolean, given: Record<string, Given<never>>): Service<G> {
-  if (typeof name !== 'string' || name === '') throw new TypeError(`a service's name must be a string that isn't empty, not ${shown(name)}`);
+  if (typeof name !== 'string' || name === '' || name.includes('/') || name === '-') throw new TypeError(`a service's name must be a string without /, as 'Shop', not ${shown(name)}`);
+  if (given === null || typeof given !== 'object') throw new TypeError(`the handlers of ${name} must be an object with a function for each name, not ${shown(given)}`);
   const handlers = new Map<string, AnyHandler>();
   for (const [own, it] of Object.entries(given)) {
     const how = typeof it === 'function' ? made('handler', it as Run<never, never, unknown>, {}) : it;
@@ -198,11 +200,27 @@ export function workflow<G extends Record<string, Given<SharedWorkflowContext> |
   return found;
 }
 
+/** What stands before the first slash, and what stands behind it. */
+function parts(path: string): [service: string, handler: string] {
+  const at = path.indexOf('/');
+  return at < 0 ? ['', ''] : [path.slice(0, at), path.slice(at + 1)];
+}
+
+/** The service and the name of what is called. Throws a `TerminalError` with code 400 for what is no handler, and no `'Service/handler'`. */
+export function namesOf(callee: { readonly service: string; readonly name: string } | string): [string, string] {
+  const [service, name] = typeof callee === 'string' ? parts(callee) : [callee?.service, callee?.name];
+  if (!service || !name) throw new TerminalError(`${shown(callee)} is no handler: it is one of a service, as shop.order, or a text as 'Service/handler'`, 400);
+  return [service, name];
+}
+
 /** The services that a worker serves, by their names. */
 export function servicesOf(services: readonly AnyService[]): Map<string, About> {
   const found = new Map<string, About>();
   const queues = new Map<string, Queue>();
-  for (const { [ABOUT]: about } of services) {
+  if (!Array.isArray(services)) throw new TypeError(`services must be an array of what service, object or workflow makes, not ${shown(services)}`);
+  for (const it of services as readonly AnyService[]) {
+    const about = it?.[ABOUT];
+    if (about === undefined) throw new TypeError(`services must be an array of what service, object or workflow makes, and ${shown(it)} is none`);
     if (found.has(about.name)) throw new Error(`there are two services with the name ${about.name}`);
     found.set(about.name, about);
     for (const { queue } of about.handlers.values()) {

@@ -6,7 +6,7 @@ import type { Host } from './attempt';
 import { look } from './claiming';
 import type { Claimer, Look } from './claiming';
 import { StatementFailed } from './database';
-import { said, shown, storable } from './errors';
+import { checkUrl, said, shown, storable } from './errors';
 import { Log } from './log';
 import type { LogOptions } from './log';
 import { Meter } from './metrics';
@@ -62,7 +62,7 @@ const COUNTS = new Set<string>(['limit', 'effects', 'connections']);
 const MAY_BE_NOTHING = new Set<string>(['idle', 'grace', 'stuck']);
 
 function checked(options: WorkerOptions): void {
-  if (typeof options.url !== 'string' || !/^postgres(ql)?:\/\//.test(options.url)) throw new TypeError(`url must be that of a PostgreSQL database, as postgresql://.., not ${shown(options.url)}`);
+  checkUrl(options.url);
   for (const name of NUMBERS) {
     const given = options[name];
     const least = MAY_BE_NOTHING.has(name) ? 0 : 1;

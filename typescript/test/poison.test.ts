@@ -51,7 +51,7 @@ const DOES: Record<string, [Does, RegExp]> = {
   'runs no function': [(ctx) => ctx.run('x', 5 as never), /takes a function, not number/],
   'a run that is ours': [(ctx) => ctx.run('palqytun.x', () => 1), /doesn't begin with palqytun\./],
   'combines what is not durable': [(ctx) => all([ctx.sleep(0), 5 as never]), /^TypeError: all takes what the context gives/],
-  'calls without a name': [(ctx) => ctx.call('none', 1), /is named as Service\/handler/],
+  'calls without a name': [(ctx) => ctx.call('none', 1), /^"none" is no handler: it is one of a service/],
   'a key that is no text': [(ctx) => ctx.call('Poison/healthy', 1, { key: 5 as never }), /the key is a text, and not number/],
   'state in a service': [(ctx) => (ctx as unknown as { get(name: string): unknown }).get('x'), /Poison is a service, which has no key and so no state/],
   'a promise in a service': [(ctx) => (ctx as unknown as { promise(name: string): unknown }).promise('x'), /has no promises/],

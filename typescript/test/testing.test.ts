@@ -2,7 +2,7 @@
 
 import assert from 'node:assert/strict';
 import { test } from 'node:test';
-import { Cancelled, TerminalError, handler, main, object, service, shared, workflow } from '@palqytun/sdk';
+import { Cancelled, TerminalError, handler, main, object, select, service, shared, workflow } from '@palqytun/sdk';
 import type { ObjectContext, ServiceContext, SharedObjectContext, SharedWorkflowContext, WorkflowContext } from '@palqytun/sdk';
 import { Testing, crashEverywhere, fake } from '@palqytun/sdk/testing';
 import { LONG } from './cluster';
@@ -179,6 +179,44 @@ test('one that goes on as a new invocation has an empty journal, and who waits g
     assert.deepEqual(await it.state('Counts', 'a'), { seen: [0, 1, 2, 3, 7] });
     await assert.rejects(it.call(counts.catches, null, { key: 'b' }), /paused, 500 Error: the handler caught what ctx.continueAsNew throws: it has to be thrown again/);
   }, { log: silent });
+});
+
+test('what a handler has made and never awaited is said, and it was not executed', { timeout: LONG }, async () => {
+  const [said, paid]: [string[], string[]] = [[], []];
+  const hasty = service('Hasty', {
+    run: async (ctx: ServiceContext, _: null): Promise<void> => void ctx.run('pay', () => paid.push('pay')),
+    sleep: async (ctx: ServiceContext, _: null): Promise<void> => void ctx.sleep(DAY),
+    many: async (ctx: ServiceContext, _: null): Promise<void> => { for (let at = 0; at < 9; at++) ctx.run(`pay ${at}`, () => paid.push('pay')); },
+    nothing: async (ctx: ServiceContext, _: null): Promise<string> => {
+      const run = ctx.run('pay', () => 'paid');
+      await select([run, ctx.sleep(DAY)]);
+      await Promise.all([ctx.run('one', () => 1), ctx.timeout(ctx.run('two', () => 2), 1000)]);
+      return run;
+    },
+    fails: async (ctx: ServiceContext, _: null): Promise<void> => {
+      ctx.run('pay', () => paid.push('pay'));
+      throw new TerminalError('it is refused', 402);
+    },
+    names: async (ctx: ServiceContext, callee: string): Promise<unknown> => ctx.call(callee),
+    swaps: handler(async (ctx: ServiceContext, _: null): Promise<unknown> => ctx.run((() => 1) as never, 'pay' as never), { retry: { attempts: 1 } }),
+  });
+  await Testing.run([hasty], async (it) => {
+    for (const callee of [hasty.run, hasty.sleep, hasty.many]) await it.call(callee, null);
+    const why = "without an await a run isn't executed, and a sleep doesn't wait";
+    const many = Array.from({ length: 5 }, (_, at) => `the run "pay ${at}"`).join(', ');
+    const names = ['the run "pay"', 'a sleep', `${many} and 4 more`];
+    const lines = said.map((line) => line.replace(/^.*WARNING palqytun /, '').replace(/inv_\w+/, 'ID'));
+    assert.deepEqual(lines, ['run', 'sleep', 'many'].map((name, at) => `Hasty/${name} ID has ended, and hasn't awaited ${names[at] as string}: ${why}`));
+    assert.equal(await it.call(hasty.nothing, null), 'paid');
+    await assert.rejects(it.call(hasty.fails, null), { code: 402 });
+    assert.deepEqual([said.length, paid], [3, []]);
+    for (const callee of ['Stock', 'Stock/', 'a/b/c']) {
+      const message = `${JSON.stringify(callee)} is no handler: it is one of a service, as shop.order, or a text as 'Service/handler'`;
+      await assert.rejects(it.call(hasty.names, callee), { code: 400, message });
+      await assert.rejects(it.call(callee), { code: 400, message });
+    }
+    await assert.rejects(it.call(hasty.swaps, null), { message: "TypeError: ctx.run takes a name and then a function, as ctx.run('pay', () => pay(order))" });
+  }, { log: { level: 'warning', write: (line) => said.push(line) } });
 });
 
 test('a fake gives its results one after the other, and knows the key of its run', () => {

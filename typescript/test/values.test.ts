@@ -4,11 +4,13 @@ import assert from 'node:assert/strict';
 import { test } from 'node:test';
 import { blake2b, idOfCall, seedOf, traceOf } from '../hash';
 import { Random } from '../random';
+import { Client } from '../client';
 import { BadValue, TerminalError, said } from '../errors';
 import { awakeableOf } from '../frames';
 import { Queue } from '../queues';
 import { handler, main, object, service, shared, workflow } from '../services';
 import { checkName, checkPayload, decoded, encoded } from '../values';
+import { Worker } from '../worker';
 
 const text = (data: Uint8Array): string => Buffer.concat([data]).toString();
 const bytes = (json: string): Uint8Array => Buffer.from(json, 'utf8');
@@ -61,7 +63,15 @@ test('values are JSON, and no bytes stand for null', () => {
 test('what has no meaning is refused with what is allowed', () => {
   const does = (): number => 1;
   for (const [made, message] of [
-    [() => service('', {}), "a service's name must be a string that isn't empty, not \"\""],
+    [() => service('', {}), "a service's name must be a string without /, as 'Shop', not \"\""],
+    [() => object('a/b', {}), "a service's name must be a string without /, as 'Shop', not \"a/b\""],
+    [() => service('S', undefined as never), 'the handlers of S must be an object with a function for each name, not undefined'],
+    [() => service('S', { a: handler(does, { retry: 5 as never }) }), 'the retry of S/a must be an object, as { attempts: 5 }, not 5'],
+    [() => service('S', { a: handler(does, { timeout: '5' as never }) }), 'the timeout of S/a must be a number of milliseconds above 0, not "5"'],
+    [() => new Queue('q', { rate: 5 as never }), 'the rate of the queue q must be a pair, a count from 1 and milliseconds above 0, not 5'],
+    [() => new Worker({ url: 'postgresql://x/y' } as never), 'services must be an array of what service, object or workflow makes, not undefined'],
+    [() => new Worker({ url: 'postgresql://x/y', services: [does as never] }), 'services must be an array of what service, object or workflow makes, and function is none'],
+    [() => new Worker({ url: 'trips.db', services: [] }), 'url must be that of a PostgreSQL database, as postgresql://.., not "trips.db"'],
     [() => service('S', { a: 5 as never }), 'S/a must be a function, or what handler, shared or main makes of one, not 5'],
     [() => service('S', { a: shared(does) as never }), 'S/a is shared: only a handler of an object may be shared'],
     [() => object('O', { a: main(does) as never }), 'O/a is a main: only a workflow may have one'],
@@ -71,6 +81,10 @@ test('what has no meaning is refused with what is allowed', () => {
     [() => service('S', { a: handler(does, { retry: { attempts: 0 } }) }), 'the retry of S/a: attempts must be a whole number from 1, not 0'],
     [() => new Queue('q', { rate: [0, 1] }), 'the rate of the queue q must be a pair, a count from 1 and milliseconds above 0, not [0,1]'],
   ] as const) assert.throws(made, { message }); // prettier-ignore
+});
+
+test('a client is refused what is no address, before it connects', async () => {
+  for (const url of ['', 'trips.db']) await assert.rejects(Client.connect({ url }), { message: `url must be that of a PostgreSQL database, as postgresql://.., not "${url}"` });
 });
 
 test('what JSON has not is refused by name', () => {
