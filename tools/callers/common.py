@@ -72,6 +72,12 @@ def other_library(it: Bindings, name: str, code: str) -> str | None:
     return made
 
 
+def installation_of(language: str) -> str:
+    """The commands by which a binding's README says that a program of one's own gets it. They know the repository as PALQYTUN."""
+    found = re.findall(r"^```sh\n(.*?)^```$", Path(f"bindings/{language}/README.md").read_text(encoding="utf-8"), re.M | re.S)
+    return f"export PALQYTUN='{os.getcwd()}'\n{found[0]}" if len(found) == 1 else "false # README has no installation"
+
+
 def example_of(language: str, fence: str) -> tuple[str, str]:
     """The example of a binding's README, and what it prints."""
     blocks = re.findall(r"^```(\w+)\n(.*?)^```$", Path(f"bindings/{language}/README.md").read_text(encoding="utf-8"), re.M | re.S)

@@ -2,10 +2,12 @@
 
 from __future__ import annotations
 
+from pathlib import Path
+
 from tools.gate import counts as counting
 from tools.programs.commands import ended
 
-from .common import SECONDS, Bindings, copied, loads, plays
+from .common import SECONDS, Bindings, copied, installation_of, loads, plays
 
 
 def rust(it: Bindings) -> None:
@@ -19,6 +21,10 @@ def rust(it: Bindings) -> None:
         return
     plays(it, "Rust", [f"{target}/debug/examples/conform"])
     loads(it, "Rust", [f"{target}/debug/examples/about"])
+    words = f"cargo init --quiet --vcs none --name example .\n{installation_of('rust')}\ncargo build"
+    user = Path(it.room, "rust-user")
+    user.mkdir()
+    it.checks.build("a crate of one's own gets the crate in Rust", ["sh", "-ec", words], env, str(user))
     it.checks.build("the bench in Rust", [f"{target}/debug/examples/bench", "1"], env)
     ran = ended(["cargo", "test"], env, folder, SECONDS)
     found = counting.Counts()
