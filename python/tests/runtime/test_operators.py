@@ -148,7 +148,7 @@ class ByCommand(support.OnADatabase):
             (("invocations", "restart", "--status", "failed", "--step", "3"), "a step is of one invocation"),
             (("state", "Stock", "pen", "left"), "the state of Stock/pen has no left"),
             (("state", "Stock", "pen", "--set", "1"), "a state is set by SERVICE KEY NAME --set VALUE"),
-            (("state", "Stock", "pen", "left", "--set", "{"), "the state is no value"),
+            (("state", "Stock", "pen", "left", "--set", "pen"), 'the state is no value, as 7 or "a text" in JSON: '),
             (("schedules", "pause"), "name the schedule, as palqytun schedules pause NAME"),
             (("schedules", "pause", "none"), "there is no schedule none"),
             (("schedules", "pause", "none", "--since", "2026-01-01"), "--since and --until are of a backfill"),
@@ -157,8 +157,18 @@ class ByCommand(support.OnADatabase):
                 status, said, error = palqytun(*words, "--db", self.url)
                 self.assertEqual((status, said), (2, ""))
                 self.assertIn(why, error)
-        self.assertEqual(palqytun("invocations", "cancel", "--all", "--db", self.url)[0], 0)
-        self.assertEqual(palqytun("audit", "--json", "--db", self.url), (0, "", ""))
+        for words, why in [
+            (("invocations", "cancel", "--all"), "cancel was done to 0 invocations"),
+            (("invocations", "cancel", "--all", "--dry-run"), "cancel would be done to 0 invocations"),
+            (("audit", "--json"), "nobody has done anything"),
+            (("audit", "inv_none"), "nobody has done anything to inv_none"),
+            (("state",), "there is no state of any service"),
+            (("state", "Stock"), "there is no state of Stock"),
+            (("state", "Stock", "--text", "pe"), "there is no state of Stock with 'pe' in its key"),
+            (("state", "Stock", "pen"), "there is no state of Stock/pen"),
+        ]:
+            with self.subTest(words):
+                self.assertEqual(palqytun(*words, "--db", self.url), (0, "", f"{why}\n"))
 
 
 if __name__ == "__main__":

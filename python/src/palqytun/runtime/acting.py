@@ -66,7 +66,7 @@ def _act_on_all(name: str, options: argparse.Namespace, asked: Filter, done: Don
     if options.dry_run:
         for _, id in done(options.db, lambda db: acts.found(db, name, asked)):
             print(id)
-        print(f"{count} invocations would be met by {name}", file=sys.stderr)
+        print(f"{name} would be done to {count} invocations", file=sys.stderr)
         return 0
     met = 0
     while True:
@@ -77,7 +77,7 @@ def _act_on_all(name: str, options: argparse.Namespace, asked: Filter, done: Don
         if before is None:
             break
         asked = replace(asked, before=before)
-    print(f"{met} invocations were met by {name}", file=sys.stderr)
+    print(f"{name} was done to {met} invocations", file=sys.stderr)
     return 0
 
 
@@ -125,18 +125,26 @@ def state(options: argparse.Namespace, done: Done) -> int:
     if options.set is not None or options.clear:
         return _change(options, done)
     if options.service is None:
-        print("\n".join(done(options.db, keyed.services)))
+        lines, whose = done(options.db, keyed.services), "any service"
     elif options.key is None:
-        for key, many, size in done(options.db, lambda db: keyed.keys(db, options.service, options.text or "", options.most)):
-            print(f"{key:<40}  {many:>5} names  {size:>8} bytes")
+        those = done(options.db, lambda db: keyed.keys(db, options.service, options.text or "", options.most))
+        lines, whose = [f"{key:<40}  {many:>5} names  {size:>8} bytes" for key, many, size in those], f"{options.service}" + (f" with {options.text!r} in its key" if options.text else "")
     else:
-        found = done(options.db, lambda db: keyed.state_of(db, options.service, options.key))
-        if options.name is not None and options.name not in found:
-            raise TerminalError(f"the state of {options.service}/{options.key} has no {options.name}", 404)
-        for name, value in found.items():
-            if options.name in (None, name):
-                print(keyed.shown(value) if options.name else f"{name} = {keyed.shown(value)}")
+        lines, whose = _state_of_key(options, done), f"{options.service}/{options.key}"
+    for it in lines:
+        print(it)
+    if not lines:
+        print(f"there is no state of {whose}", file=sys.stderr)
     return 0
+
+
+def _state_of_key(options: argparse.Namespace, done: Done) -> list[str]:
+    found = done(options.db, lambda db: keyed.state_of(db, options.service, options.key))
+    if options.name is None:
+        return [f"{name} = {keyed.shown(value)}" for name, value in found.items()]
+    if options.name not in found:
+        raise TerminalError(f"the state of {options.service}/{options.key} has no {options.name}", 404)
+    return [keyed.shown(found[options.name])]
 
 
 def _change(options: argparse.Namespace, done: Done) -> int:
@@ -164,7 +172,10 @@ def state_options(one: argparse.ArgumentParser) -> None:
 
 def audited(options: argparse.Namespace, done: Done) -> int:
     """Who did what, the newest first."""
-    for it in done(options.db, lambda db: audit.records(db, options.id, options.most)):
+    found = done(options.db, lambda db: audit.records(db, options.id, options.most))
+    if not found:
+        print("nobody has done anything" + (f" to {options.id}" if options.id else ""), file=sys.stderr)
+    for it in found:
         if options.json:
             print(json.dumps(it))
             continue

@@ -54,7 +54,7 @@ def checked(codec: Codec, value: bytes) -> bytes:
     try:
         decoded(codec, value, object)
     except BadValue as error:
-        raise TerminalError(f"the state is no value: {error}", 400) from error
+        raise TerminalError(f"the state is no value, as 7 or \"a text\" in JSON: {error}", 400) from error
     return value
 
 
