@@ -243,9 +243,7 @@ class Commands(support.InAFolder, unittest.TestCase):
             ("mysql://x/y", "mysql:// is no database that is known: it is postgresql://.. or the path of a SQLite file"),
             (str(self.folder / "none" / "db"), f"there is no folder {self.folder / 'none'} for the database"),
         ]:
-            with self.assertRaises(command.Refused) as refused:
-                command.checked_url(url)
-            self.assertIn(why, str(refused.exception))
+            self.assertEqual(self.refused("run", str(SHOP), "--db", url, "--port", "0"), f"palqytun: {why}")
         self.assertIn("there is no database", self.refused("invocations", "list", "--db", str(self.folder / "none")))
         self.assertIn("mysql://", self.refused("invocations", "list", PALQYTUN_DB="mysql://x/y"))
         app = self.written("one.py", f"{APP}app = App(words)\n")

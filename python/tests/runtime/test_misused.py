@@ -5,7 +5,8 @@ import re
 import unittest
 
 import support  # isort: skip
-from palqytun.runtime import App, Context, JsonCodec, NotDurable, Queue, Retry, Service, ServiceContext, TerminalError, VirtualObject, Workflow, gather, select
+from palqytun.runtime import App, Client, Context, Engine, JsonCodec, NotDurable, Queue, Retry, Service, ServiceContext, TerminalError, VirtualObject, Workflow, gather, select
+from palqytun.runtime.database import Unsuitable
 from palqytun.testing import Testing
 
 beginner, stock = Service("Beginner"), VirtualObject("Stock")
@@ -110,6 +111,36 @@ class Registered(unittest.TestCase):
         for name in ("", "a/b", "-", None):
             self.refused(ValueError, f"a service has a name without /, as Service('Shop'), and {name!r} is none", lambda it=name: Service(it))
         self.refused(TypeError, "an app has services, objects and workflows, as App(Service('Shop')), and not 'Shop'", lambda: App("Shop"))
+
+
+class Made(support.InAFolder, unittest.TestCase):
+    """Workers and clients within a program."""
+
+    def test_databases(self):
+        wants = "it is postgresql://.. or the path of a SQLite file"
+        for url, why in [
+            ("mysql://x", f"mysql:// is no database that is known: {wants}"),
+            ("", f"'' is no database: {wants}"),
+            (None, f"None is no database: {wants}"),
+            (str(self.folder / "none/db"), f"there is no folder {self.folder / 'none'} for the database"),
+        ]:
+            for make in (Engine, lambda app, url: Client(app, url)):
+                with self.subTest(url), self.assertRaises(Unsuitable) as refused:
+                    make(app, url)
+                self.assertEqual(str(refused.exception), why)
+
+    def test_the_app_comes_first(self):
+        for make in (Engine, Client):
+            for wrong in (beginner, "trips.db"):
+                with self.assertRaisesRegex(TypeError, r"^an App comes first, and then the database: App\(Service\('Shop'\)\), and not "):
+                    make(wrong, "trips.db")
+
+    def test_options_of_a_worker(self):
+        for name, value, least in [("idle", -1, 0), ("lease", 0, 0.1), ("limit", "5", 0), ("threads", 0, 1), ("grace", float("inf"), 0), ("effects", True, 1)]:
+            with self.assertRaises(ValueError) as refused:
+                Engine(app, str(self.folder / "db"), **{name: value})
+            self.assertEqual(str(refused.exception), f"{name} is a number from {least} on, and not {value!r}")
+        self.assertEqual(list(self.folder.iterdir()), [])
 
 
 class Called(unittest.IsolatedAsyncioTestCase):

@@ -23,7 +23,7 @@ from typing import Any, TypeVar
 from palqytun._library import Library, library
 
 from . import acting, logs, operate, process, sealing, shown
-from .database import Conflict, Database, Lost, Unsuitable, connect, partitions
+from .database import Conflict, Database, Lost, Unsuitable, checked_url, connect, partitions
 from .database.plain import Plain
 from .database.postgres import NoDriver
 from .database.schema import MIGRATIONS, NewerSchema, NotMigrated, OlderSchema
@@ -88,18 +88,6 @@ def load(path: str) -> App:
     return next(iter(found.values()))
 
 
-def checked_url(url: str) -> str:
-    """The address of a database, if it is one."""
-    scheme, found, _ = url.partition("://")
-    if found and scheme not in ("postgres", "postgresql"):
-        raise Refused(f"{scheme}:// is no database that is known: it is postgresql://.. or the path of a SQLite file")
-    if not found:
-        folder = pathlib.Path(url.removeprefix("sqlite:").partition("?")[0]).parent
-        if not folder.is_dir():
-            raise Refused(f"there is no folder {folder} for the database")
-    return url
-
-
 def _without_password(url: str) -> str:
     """A database's address as it may be shown.
 
@@ -150,7 +138,7 @@ async def _serve(options: argparse.Namespace) -> None:
     names = ("name", "limit", "idle", "lease", "keep", "effects", "threads", "grace", "version")
     app, opening = load(options.app), _Opening()
     process.collect_less()
-    engine = Engine(app, checked_url(options.db), stuck=_STUCK, connect=opening, **{name: getattr(options, name) for name in names})
+    engine = Engine(app, options.db, stuck=_STUCK, connect=opening, **{name: getattr(options, name) for name in names})
     if options.port < 0:
         process.Signals(asyncio.get_running_loop(), engine.stop, options.grace)
         await (await _opened(engine, opening, options.wait_for_database))

@@ -16,7 +16,7 @@ from typing import TypeVar
 from . import acts, announced, chains, invocations
 from .announced import Target
 from .committer import After, Committer, Stopped
-from .database import Conflict, Database, Lost, connect
+from .database import Conflict, Database, Lost, checked_url, connect
 from .filters import Filter
 from .invocations import Claim, New
 from .journal import Result
@@ -65,8 +65,10 @@ def _check_id(invocation: str) -> None:
 class Desk:
     """What both kinds have. A subclass sets `_committer` as long as it has a connection."""
 
-    def __init__(self, app: App):
-        self.app = app
+    def __init__(self, app: App, url: str):
+        if not isinstance(app, App):
+            raise TypeError(f"an App comes first, and then the database: App(Service('Shop')), and not {app!r}")
+        self.app, self.url = app, checked_url(url)
         self._committer: Committer | None = None
         self._results: dict[str, list[Told]] = {}
         self._looks = _LOOKED
@@ -241,8 +243,8 @@ class RemoteDesk(Desk):
     """A desk with a connection of its own, and no worker. A lost connection is made again."""
 
     def __init__(self, app: App, url: str):
-        super().__init__(app)
-        self._url, self._stop, self._is_open = url, asyncio.Event(), asyncio.Event()
+        super().__init__(app, url)
+        self._stop, self._is_open = asyncio.Event(), asyncio.Event()
         self._running: asyncio.Task[None] | None = None
 
     @property
@@ -278,7 +280,7 @@ class RemoteDesk(Desk):
         while not self.drains:
             self._is_open.clear()
             try:
-                await self._connected(await connect(self._url))
+                await self._connected(await connect(self.url))
             except (Lost, Conflict) as error:
                 log.warning("the database can't be reached: %s", error)
             if self._is_open.is_set():

@@ -6,6 +6,7 @@ import asyncio
 import contextlib
 import functools
 import logging
+import math
 import random
 import secrets
 import time
@@ -35,6 +36,17 @@ _SHORTEST, _LONGEST = 0.1, 5.0  # seconds between connections
 _CLAIMS = 200  # at most in one transaction, so that other workers get some too
 _MOMENTS = 0.002, 0.05  # seconds, the shortest and the longest; others may make something ready many times in it
 _LAST = 5.0  # seconds that each part of a shutdown may take, beside the grace
+
+
+_LEAST = {"lease": 0.1, "effects": 1, "threads": 1}  # of an option of a worker; else 0
+
+
+def _check(**options: float | None) -> None:
+    """`ValueError` for an option of a worker that has no meaning."""
+    for name, it in options.items():
+        least = _LEAST.get(name, 0)
+        if it is not None and (isinstance(it, bool) or not isinstance(it, (int, float)) or not least <= it < math.inf):
+            raise ValueError(f"{name} is a number from {least} on, and not {it!r}")
 
 
 class Engine(Desk):
@@ -67,8 +79,8 @@ class Engine(Desk):
         grouped: bool = True,
         connect: Callable[[str], Awaitable[Database]] = lambda url: connect(url, worker=True),
     ):
-        super().__init__(app)
-        self.url = url
+        super().__init__(app, url)
+        _check(limit=limit, idle=idle, lease=lease, poll=poll, keep=keep, effects=effects, threads=threads, grace=grace, stuck=stuck)
         self.name, self.limit, self.idle, self.lease, self.poll, self.keep, self.grouped = name, limit, idle, lease, poll, keep, grouped
         self.grace, self.stuck, self.executions = grace, stuck, Executions(effects, threads)
         self._connect, self.version = connect, version or app.version

@@ -2,6 +2,7 @@
 
 from __future__ import annotations
 
+import pathlib
 from collections.abc import Callable, Iterable, Sequence
 from dataclasses import dataclass
 from typing import Any, Protocol
@@ -140,6 +141,20 @@ class Database(Protocol):
     def close(self) -> None: ...
 
 
+def checked_url(url: str) -> str:
+    """The address of a database, if it is one; else `Unsuitable`."""
+    if not isinstance(url, str) or not url:
+        raise Unsuitable(f"{url!r} is no database: it is postgresql://.. or the path of a SQLite file")
+    scheme, found, _ = url.partition("://")
+    if found and scheme not in ("postgres", "postgresql"):
+        raise Unsuitable(f"{scheme}:// is no database that is known: it is postgresql://.. or the path of a SQLite file")
+    if not found:
+        folder = pathlib.Path(url.removeprefix("sqlite:").partition("?")[0]).parent
+        if not folder.is_dir():
+            raise Unsuitable(f"there is no folder {folder} for the database")
+    return url
+
+
 async def connect(url: str, *, worker: bool = False, migrates: bool = False, parts: int = 0) -> Database:
     """`postgresql://..`, or the path of a SQLite file, which may be followed by `?synchronous=NORMAL`. `worker` says that this connection is
     that of a worker: a SQLite file has one at a time, and a PostgreSQL database has to let it write. With `migrates` a database of an older schema is
@@ -157,4 +172,4 @@ async def connect(url: str, *, worker: bool = False, migrates: bool = False, par
     return SQLite(path, synchronous=option or "FULL", worker=worker or migrates)
 
 
-__all__ = ["Asked", "Beats", "Claiming", "Conflict", "Database", "Each", "Full", "Listed", "Lost", "Reading", "StatementFailed", "Unsuitable", "connect"]
+__all__ = ["Asked", "Beats", "Claiming", "Conflict", "Database", "Each", "Full", "Listed", "Lost", "Reading", "StatementFailed", "Unsuitable", "checked_url", "connect"]
