@@ -1,11 +1,13 @@
 """What a beginner gets wrong: handlers that can't be registered, calls without an `await`, and calls of what is no handler. Each error says what to do."""
 
 import asyncio
+import datetime
 import re
 import unittest
 
 import support  # isort: skip
-from palqytun.runtime import App, Client, Context, Engine, JsonCodec, NotDurable, Queue, Retry, Service, ServiceContext, TerminalError, VirtualObject, Workflow, gather, select
+from palqytun.runtime import App, Client, Context, Engine, JsonCodec, NotDurable, Queue, Retry, Service, ServiceContext, TerminalError, VirtualObject
+from palqytun.runtime import Workflow, gather, select, wait_any
 from palqytun.runtime.database import Unsuitable
 from palqytun.testing import Testing
 
@@ -68,6 +70,30 @@ async def awaits_as_asyncio_does(ctx: ServiceContext, _: None) -> None:
 @beginner.handler()
 async def calls(ctx: ServiceContext, target: object) -> str:
     return await ctx.call(target)  # type: ignore[call-overload,no-any-return]
+
+
+NUMBER = "takes a number of seconds, and not"
+DOES = {
+    "sleeps a timedelta": (lambda ctx: ctx.sleep(datetime.timedelta(seconds=1)), f"ctx.sleep {NUMBER} datetime.timedelta(seconds=1), whose total_seconds() is one"),
+    "sleeps nothing": (lambda ctx: ctx.sleep(None), f"ctx.sleep {NUMBER} None"),
+    "sleeps nan": (lambda ctx: ctx.sleep(float("nan")), "ctx.sleep takes a number of seconds below 10^12, and not nan"),
+    "sleeps for ever": (lambda ctx: ctx.sleep(1e30), "ctx.sleep takes a number of seconds below 10^12, and not 1e+30"),
+    "sends at a text": (lambda ctx: ctx.send("Stock/take", 1, key="k", delay="5"), f"the delay of ctx.send {NUMBER} '5'"),
+    "waits for a text": (lambda ctx: ctx.timeout(ctx.sleep(0), "5"), f"ctx.timeout {NUMBER} '5'"),
+    "retries a number": (lambda ctx: ctx.run("pay", pay, retry=5), "the retry of a run is a Retry, as Retry(attempts=5), and not 5"),
+    "limits by a text": (lambda ctx: ctx.run("pay", pay, timeout="5"), "a timeout is a number of seconds above 0, and not '5'"),
+    "gathers a list": (lambda ctx: gather([ctx.sleep(0)]), ": give the items, as gather(*items)"),
+    "selects nothing": (lambda ctx: select(), "select of nothing would never end"),
+    "waits for any of nothing": (lambda ctx: wait_any(), "wait_any of nothing would never end"),
+    "spawns a function": (lambda ctx: ctx.spawn(pay), "ctx.spawn takes a coroutine, as ctx.spawn(one(ctx)) of an `async def one`, and not <function pay"),
+    "spawns a sleep": (lambda ctx: ctx.spawn(ctx.sleep(0)), "ctx.spawn takes a coroutine, as ctx.spawn(one(ctx)) of an `async def one`, and not "),
+    "calls by a number": (lambda ctx: ctx.call("Stock/take", 1, key=5), "the key is a text, and not 5"),
+}
+
+
+@beginner.handler(retry=Retry(attempts=1))
+async def does(ctx: ServiceContext, what: str) -> object:
+    return await DOES[what][0](ctx)  # type: ignore[no-untyped-call]
 
 
 app = App(beginner, stock)
@@ -191,6 +217,11 @@ class Called(unittest.IsolatedAsyncioTestCase):
         message = (await self.failed(awaits_as_asyncio_does)).message
         self.assertIn(NotDurable.__name__, message)
         self.assertIn(wants, message)
+
+    async def test_arguments(self):
+        for what, (_, wants) in DOES.items():
+            with self.subTest(what):
+                self.assertIn(wants, (await self.failed(does, what)).message)
 
     async def test_what_is_no_handler(self):
         for target in ("Stock", "/take", "Stock/", 7):

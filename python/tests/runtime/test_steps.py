@@ -314,7 +314,7 @@ class Steps(support.OnADatabase):
             self.assertEqual([(await runtime.call("Work/state", it))[:2] for it in ("set", "get")], [no_state, no_state])
             self.assertIn("Work is a Service, which has no promises", (await runtime.call("Work/state", "promise"))[1])
             self.assertIn("Thing is a VirtualObject, which has no promises", (await runtime.call("Thing/promises", key="k"))[1])
-            only = (500, "this handler only reads the state")
+            only = (500, "this handler only reads the state: one that is registered by `handler`, or a workflow's `main`, changes it")
             self.assertEqual([(await runtime.call(it, key="k"))[:2] for it in ("Thing/clears", "Flow/sets")], [only, only])
             self.assertIn("ObjectContext has no sett", (await runtime.until(await runtime.send("Thing/mistypes", key="other"), "paused"))[1])
             self.assertEqual([await runtime.call("Thing/kinds", key="k"), await runtime.call("Flow/main", key="k")], ["ObjectContext", "WorkflowContext"])

@@ -82,8 +82,21 @@ running: contextvars.ContextVar[Action | None] = contextvars.ContextVar("palqytu
 _FOREVER = core.retry_forever()
 
 
+_LONGEST = 1e12  # seconds: 30,000 years
+
+
 def _ms(seconds: float) -> int:
     return int(seconds * 1000)
+
+
+def _seconds(what: str, seconds: float) -> float:
+    """`TypeError` or `ValueError` for what is no number of seconds."""
+    if not isinstance(seconds, (int, float)):
+        instead = ", whose total_seconds() is one" if isinstance(seconds, datetime.timedelta) else ""
+        raise TypeError(f"{what} takes a number of seconds, and not {seconds!r}{instead}")
+    if not -_LONGEST < seconds < _LONGEST:
+        raise ValueError(f"{what} takes a number of seconds below 10^12, and not {seconds}")
+    return seconds
 
 
 def _check_names(service: str, handler: str, key: str | None, idempotency_key: str | None) -> None:
@@ -175,7 +188,7 @@ _INSTEAD = {
 
 
 _NO_STATE = "{service} is a Service, which has no key and so no state; a VirtualObject has one"
-_ONLY_READS = "this handler only reads the state"
+_ONLY_READS = "this handler only reads the state: one that is registered by `handler`, or a workflow's `main`, changes it"
 _NO_PROMISE = {
     "ServiceContext": "{service} is a Service, which has no promises; a Workflow has them, and an awakeable belongs to its handler",
     **dict.fromkeys(("ObjectContext", "SharedObjectContext"), "{service} is a VirtualObject, which has no promises; a Workflow has them, and an awakeable is one's own"),
@@ -392,7 +405,7 @@ class Context:
 
     def sleep(self, seconds: float) -> Durable[None]:
         """Ends after this number of seconds, across crashes."""
-        handle = self._vm_call("sys_sleep", max(0, _ms(time.time() + seconds)))
+        handle = self._vm_call("sys_sleep", max(0, _ms(time.time() + _seconds("ctx.sleep", seconds))))
         self._slept += 1
         return Timer(handle, self._slept - 1, self._leave, self.forgotten.append)
 
@@ -497,6 +510,7 @@ class Context:
     def timeout(self, awaited: Durable[T], seconds: float) -> Durable[T]:
         """The result, if it comes in that time, in seconds; else it raises `TimedOut`, which is a `TimeoutError` and a `TerminalError` with code 408.
         Then the calls that were awaited are cancelled, and a coroutine of `spawn` gets `Cancelled`. A run goes on, and its result isn't waited for."""
+        _seconds("ctx.timeout", seconds)
         return self.spawn(self._timed(awaited, self.sleep(seconds), seconds))
 
     async def _timed(self, awaited: Durable[T], over: Durable[None], seconds: float) -> T:
@@ -541,6 +555,8 @@ class Context:
     def spawn(self, coroutine: Coroutine[Any, Any, T]) -> Durable[T]:
         """Runs a coroutine of durables beside the handler. It ends with the handler."""
         assert self.tasks is not None
+        if not inspect.iscoroutine(coroutine):
+            raise TypeError(f"ctx.spawn takes a coroutine, as ctx.spawn(one(ctx)) of an `async def one`, and not {coroutine!r}")
         task: Task[T] = Task(coroutine)
         self.tasks.add(task)
         return task
@@ -633,7 +649,7 @@ class Context:
         _check_names(service, name, key, idempotency_key)
         told = to_text_headers(queues.headers(headers, priority, queue_key))
         options = {"key": key, "idempotency_key": idempotency_key, "headers": told}
-        at = _ms(time.time() + delay) if delay else None
+        at = _ms(time.time() + _seconds("the delay of ctx.send", delay)) if delay else None
         return Leaf(self._vm_call("sys_send", service, name, encoded(self._codec, argument), at=at, **options), lambda came: str(came.id))
 
     @overload

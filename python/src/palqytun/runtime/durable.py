@@ -106,7 +106,8 @@ class _Over(Durable[T]):
     def __init__(self, *children: Durable[Any]):
         for child in children:
             if not isinstance(child, Durable):
-                raise NotDurable(f"what the context gives can be combined, and not {child!r}")
+                several = ": give the items, as gather(*items)" if isinstance(child, (list, tuple)) else ""
+                raise NotDurable(f"what the context gives can be combined, and not {child!r}"[:300] + several)
             child.is_used = True
         self.children = children
 
@@ -185,6 +186,12 @@ class _AnySuccess(_Over[Any]):
         return next((it for it in self.children if it.outcome()), self.children[-1]).result()
 
 
+def _some(what: str, children: tuple[Durable[T], ...]) -> tuple[Durable[T], ...]:
+    if not children:
+        raise TypeError(f"{what} of nothing would never end")
+    return children
+
+
 def gather(*children: Durable[Any], return_exceptions: bool = False) -> Durable[list[Any]]:
     """All results, in order. The first failure is raised; with `return_exceptions` each failure stands as its `TerminalError`."""
     return _Settled(*children) if return_exceptions else _Gather(*children)
@@ -192,12 +199,12 @@ def gather(*children: Durable[Any], return_exceptions: bool = False) -> Durable[
 
 def select(*children: Durable[Any]) -> Durable[tuple[int, Any]]:
     """The number, from 0, and the result of the first that has an outcome; a failure is raised."""
-    return _Select(*children)
+    return _Select(*_some("select", children))
 
 
 def wait_any(*children: Durable[T]) -> Durable[T]:
     """The result of the first that succeeds. If all fail, the failure of the last is raised."""
-    return _AnySuccess(*children)
+    return _AnySuccess(*_some("wait_any", children))
 
 
 class ContinuedAsNew(BaseException):

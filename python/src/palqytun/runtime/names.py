@@ -20,6 +20,8 @@ class BadName(TerminalError):
 
 def check_name(what: str, name: str) -> None:
     """`BadName` if this can't be part of a key of the database: it is too long, has a NUL, or is no Unicode."""
+    if not isinstance(name, str):
+        raise BadName(f"{what} is a text, and not {name!r}"[:300])
     try:
         length = len(name.encode())
     except UnicodeEncodeError:

@@ -12,10 +12,12 @@ P = ParamSpec("P")
 R_co = TypeVar("R_co", covariant=True)
 
 
-def _check(**limits: float | None) -> None:
+def _check(retry: Retry | None, **limits: float | None) -> None:
+    if retry is not None and not isinstance(retry, Retry):
+        raise TypeError(f"the retry of a run is a Retry, as Retry(attempts=5), and not {retry!r}")
     for name, seconds in limits.items():
-        if seconds is not None and not seconds > 0:
-            raise ValueError(f"a {name} is a number of seconds above 0, and not {seconds}")
+        if seconds is not None and not (isinstance(seconds, (int, float)) and seconds > 0):
+            raise ValueError(f"a {name} is a number of seconds above 0, and not {seconds!r}")
 
 
 @dataclass(frozen=True)
@@ -29,7 +31,7 @@ class Step(Generic[P, R_co]):
     heartbeat: float | None = None
 
     def __post_init__(self) -> None:
-        _check(timeout=self.timeout, heartbeat=self.heartbeat)
+        _check(self.retry, timeout=self.timeout, heartbeat=self.heartbeat)
 
     def __call__(self, *arguments: P.args, **named: P.kwargs) -> R_co:
         return self.function(*arguments, **named)
@@ -47,7 +49,7 @@ def step(
 
         receipt = await ctx.run(pay, ctx.uuid(), amount=5)
     """
-    _check(timeout=timeout, heartbeat=heartbeat)
+    _check(retry, timeout=timeout, heartbeat=heartbeat)
 
     def made(function: Callable[P, R_co]) -> Step[P, R_co]:
         return Step(function, getattr(function, "__name__", "step") if name is None else name, retry, timeout, heartbeat)
