@@ -10,7 +10,7 @@ import support  # isort: skip
 import runtime_app
 from palqytun.runtime import App, Context, Service, TerminalError, committer, invocations, journal
 from palqytun.runtime.committer import Committer, Stopped
-from palqytun.runtime.database import Conflict, Lost, StatementFailed, connect, schema
+from palqytun.runtime.database import Conflict, StatementFailed, Unsuitable, connect, schema
 from palqytun.runtime.database.plain import Plain
 from palqytun.runtime.database.sqlite import InUse
 from palqytun.runtime.invocations import CLAIMED, Claimable, New
@@ -116,8 +116,9 @@ class Files(support.InAFolder, unittest.TestCase):
 
     def test_a_file_that_is_no_database(self):
         (self.folder / "db").write_bytes(b"no database" * 1000)
-        with self.assertRaises(Lost):
-            Plain(str(self.folder / "db"))
+        for opened in (Plain, worker, worker):  # the lock of a worker that wasn't made is given back
+            with self.assertRaisesRegex(Unsuitable, "^.*/db is a file, and no SQLite database$"):
+                opened(str(self.folder / "db"))
         with self.assertRaises(ValueError):
             Plain(f"{self.folder / 'other'}?synchronous=SOMETIMES")
 

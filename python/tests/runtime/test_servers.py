@@ -4,6 +4,7 @@ import asyncio
 import contextlib
 import os
 import pathlib
+import re
 import subprocess
 import sys
 import time
@@ -339,8 +340,8 @@ class OwnCluster(unittest.TestCase):
             words = [sys.executable, "-m", "palqytun", "run", str(app), "--db", standby.url, "--port", "-1", "--wait-for-database", "15"]
             ran = subprocess.run(words, capture_output=True, text=True, timeout=support.LONG)
         self.assertEqual((ran.returncode, ran.stdout), (2, ""))
-        wanted = "palqytun: the database can't be opened: a worker has to write, and this session may only read: the server is a standby, or"
-        lines = [it for it in ran.stderr.splitlines() if it.startswith(wanted)]
+        wanted = r"palqytun: the database postgresql://\S+ can't be opened: a worker has to write, and this session may only read: the server is a standby, or"
+        lines = [it for it in ran.stderr.splitlines() if re.match(wanted, it)]
         self.assertEqual(len(lines), 1, ran.stderr)
         [line] = lines
         self.assertTrue(line.endswith("name the primary, or all servers and target_session_attrs=read-write"), line)
