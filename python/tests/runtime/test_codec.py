@@ -1,18 +1,40 @@
 """Values as JSON, and back by their types."""
 
+import collections.abc
 import dataclasses
 import datetime
 import enum
 import unittest
 import uuid
 from decimal import Decimal
-from typing import Any, Literal, Optional
+from typing import Any, Literal, NamedTuple, Optional, Protocol, TypedDict
 
 import support  # noqa: F401  isort: skip
 import needs
 from palqytun.runtime.codec import JsonCodec
 
 codec = JsonCodec()
+
+
+class Plain:
+    """Of which the codec knows nothing."""
+
+
+class Typed(TypedDict):
+    name: str
+
+
+class Name(str):
+    pass
+
+
+class Pair(NamedTuple):
+    one: int
+    other: int
+
+
+class Counts(Protocol):
+    def count(self) -> int: ...
 
 
 class Colour(enum.Enum):
@@ -69,6 +91,19 @@ class Codec(unittest.TestCase):
         for data, kind, said in REFUSED:
             with self.subTest(data=data, kind=kind), self.assertRaisesRegex(ValueError, said):
                 codec.decode(data, kind)
+
+    def test_a_plain_class_is_refused_by_name(self):
+        for kind in (Plain, Plain | None, list[Plain]):
+            data = b'[{"name":"a"}]' if kind == list[Plain] else b'{"name":"a"}'
+            with self.subTest(kind), self.assertRaisesRegex(ValueError, "^JSON isn't read as Plain: make it a dataclass, an enum or a model of pydantic, or give |is of none of the types"):
+                codec.decode(data, kind)
+
+    def test_classes_of_which_json_has_the_values(self):
+        for data, kind, value in [
+            (b'{"name":"a"}', Typed, {"name": "a"}), (b'{"name":"a"}', collections.abc.Mapping, {"name": "a"}), (b'"a"', Name, "a"), (b"[1,2]", Pair, [1, 2]), (b"1", Counts, 1),
+        ]:  # fmt: skip
+            with self.subTest(kind):
+                self.assertEqual(codec.decode(data, kind), value)
 
     def test_an_int_is_a_float_and_a_decimal(self):
         self.assertIsInstance(codec.decode(b"1", float), float)

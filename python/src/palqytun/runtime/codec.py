@@ -186,7 +186,19 @@ def typed(kind: Any, value: Any) -> Any:
     if kind in (int, float, str, bool, list, dict):
         if not isinstance(value, kind) or (kind is int and isinstance(value, bool)):
             raise _mismatch(kind, value)
+    elif not _is_read(kind, value):
+        raise ValueError(f"JSON isn't read as {kind.__name__}: make it a dataclass, an enum or a model of pydantic, or give the app a codec that reads it")
     return value
+
+
+def _is_read(kind: type, value: Any) -> bool:
+    """Whether a value of JSON may stand for one of this class, of which nothing else is known: a plain class of one's own would get a dict instead."""
+    if typing.is_typeddict(kind) or issubclass(kind, (str, int, float, list, tuple, dict)):
+        return True
+    try:
+        return isinstance(value, kind)
+    except TypeError:  # a protocol, which asks nothing while the program runs
+        return True
 
 
 # `json.dumps` and `json.loads` make these anew for each call, and look which of UTF-8, 16 and 32 some bytes are.
