@@ -3,6 +3,7 @@
 import { createServer } from 'node:http';
 import { Unsuitable, said } from './errors';
 import { Log } from './log';
+import { servicesOf } from './services';
 import { GRACE, Worker } from './worker';
 import type { WorkerOptions } from './worker';
 
@@ -34,6 +35,7 @@ export async function serve(options: ServeOptions): Promise<void> {
   process.on('uncaughtException', thrown as () => void);
   process.on('SIGTERM', stop);
   process.on('SIGINT', stop);
+  void worker.isOpen.then(() => log.info(`the worker serves ${[...servicesOf(options.services).keys()].join(', ')}; SIGTERM stops it`));
   const server = options.metricsPort === undefined ? undefined : numbers(worker, options.metricsPort, log);
   try {
     await worker.run();

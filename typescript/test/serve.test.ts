@@ -50,6 +50,7 @@ test('it serves numbers, goes on after errors that belong to nobody, and ends wi
     const numbers = (await says('the numbers are at ')).split(' ').pop() ?? '';
     assert.match(await (await fetch(numbers)).text(), /^# HELP palqytun_live_attempts .*\n# TYPE palqytun_live_attempts gauge\n/);
     assert.equal((await fetch(numbers.replace('/metrics', '/other'))).status, 404);
+    await says('the worker serves Served; SIGTERM stops it');
     await until(async () => (await client.call<string>('Served/loose').catch(() => '')) === 'done'); // it serves a moment later
     await says('a promise was rejected that nobody awaits, and the worker goes on: Error: nobody awaits it');
     await says('an error was thrown that nobody catches, and the worker goes on: Error: nobody catches it');
