@@ -54,6 +54,11 @@ REFUSED = [
     (f"/{LONG}/echo", b"1", {}, 400, "the service's name has 1001 bytes"),
     (f"/S/{LONG}", b"1", {}, 400, "the handler's name has 1001 bytes"),
     ("/S/echo/send?delay=x", b"1", {}, 400, "delay=x is no number of seconds"),
+    ("/S/echo/send?dealy=5", b"1", {}, 400, "the query has 'dealy', and may have wait, delay, priority, queue-key"),
+    ("/-/acts/kill?service=S&staus=paused", b"", {}, 400, "the query has 'staus', and may have status, service, "),
+    ("/-/acts/kill?service=S&dryrun=1", b"", {}, 400, "the query has 'dryrun', and may have status, service, "),
+    ("/-/invocations/ID/kill?step=1", b"", {}, 400, "the query has 'step', and may have nothing"),
+    ("/-/schedules/daily/backfill?from=2026-01-01", b"", {}, 400, "the query has 'from', and may have since, until"),
     ("/S/echo/send?delay=-1", b"1", {}, 400, "from 0 to 10000000000 seconds"),
     ("/S/echo/send?delay=nan", b"1", {}, 400, "delay=nan is out of bounds"),
     ("/S/echo?wait=3601", b"1", {}, 400, "from 0 to 3600 seconds"),
@@ -80,7 +85,7 @@ REFUSED = [
     ("/-/invocations/ID/resume", b"", {}, 409, "is ready, and not paused"),
     ("/-/invocations/ID/restart", b"", {}, 409, "hasn't ended: kill it before"),
     ("/-/invocations/inv_none/restart?step=1", b"", {}, 404, "there is no invocation"),
-    ("/-/invocations/ID/kill?step=x", b"", {}, 400, "step=x is no whole number"),
+    ("/-/invocations/ID/restart?step=x", b"", {}, 400, "step=x is no whole number"),
     ("/-/acts/cancel", b"", {}, 400, "say which invocations"),
     ("/-/acts/cancel?status=lost", b"", {}, 400, "status=lost is none"),
     ("/-/acts/shoot?all=1", b"", {}, 404, "there is no act shoot"),
@@ -127,6 +132,8 @@ class Refusals(support.OnADatabase):
             self.assertEqual((await served.ask("/S/echo", b"", method))[:2], (405, {"code": 405, "message": f"a handler is called by POST, and not by {method}"}))
         _, root, *_ = await served.ask("/", b"", "GET")  # the address that a worker prints
         self.assertEqual(root["message"], "a handler is called by POST, and not by GET; /-/page is the operator's page")
+        self.assertEqual((await served.ask("/-/invocations?servise=S", method="GET"))[0], 400)
+        self.assertEqual((await served.ask("/-/audit?id=inv_1", method="GET"))[0], 400)
         self.assertEqual((await served.ask("/-/invocations?most=0", method="GET"))[0], 400)
         self.assertEqual((await served.ask("/-/invocations?most=1e3", method="GET"))[0], 400)
         self.assertEqual((await served.ask("/-/invocations?most=10", method="GET"))[0], 200)

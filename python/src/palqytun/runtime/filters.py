@@ -104,6 +104,11 @@ class Filter:
         return [] if self.attribute is None else attributes.asked(self.attribute)
 
     @staticmethod
+    def names() -> tuple[str, ...]:
+        """What a query may name of it."""
+        return tuple(it.name for it in fields(Filter))
+
+    @staticmethod
     def of(query: Mapping[str, str]) -> Filter:
         """The filter that a query names; an empty text is none. Raises `TerminalError` with code 400 for a value that is none."""
         given = {it.name: query[it.name] for it in fields(Filter) if query.get(it.name)}

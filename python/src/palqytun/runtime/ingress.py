@@ -112,6 +112,16 @@ def path_of(scope: Scope) -> tuple[str, ...]:
         raise TerminalError("the path is no UTF-8", 400) from None
 
 
+_OF_A_CALL = ("wait", "delay", "priority", "queue-key")
+
+
+def _only(request: Request, *names: str) -> None:
+    """Refuses a query with another name than these: a slip in a name would ask for something else, as for an act on more invocations."""
+    for it in request.query_params:
+        if it not in names:
+            raise TerminalError(f"the query has {it[:40]!r}, and may have {', '.join(names) or 'nothing'}", 400)
+
+
 def _number(request: Request, name: str, most: float) -> float | None:
     """A number of seconds that the query gives; none if it gives none."""
     text = request.query_params.get(name)
@@ -251,6 +261,7 @@ class Ingress:
             path = f"/{service}/{'KEY/' if keyed else ''}HANDLER"
             raise TerminalError(f"the path is {path}, or {path}/send, which doesn't wait", 404)
         check_name("the handler's name", names[-1])
+        _only(request, *_OF_A_CALL)
         delay = _number(request, "delay", invocations.LONGEST_DELAY)
         key, once = names[0] if keyed else "", request.headers.get("idempotency-key")
         trace = traces.checked(request.headers.get(traces.HEADER))
@@ -381,12 +392,14 @@ class Ingress:
         parts, query = path_of(request.scope)[2:], request.query_params
         if len(parts) != 2:
             raise TerminalError("the path of an act on a schedule is /-/schedules/NAME/ACT", 404)
+        _only(request, "since", "until")
         (name, what), app, who = parts, self.engine.app, self._who(request)
         since, until = query.get("since", ""), query.get("until", "")
         said = await self.engine.done(lambda db, out: scheduling.act(db, app, out, what, name, who, since, until))
         return JSONResponse({"done": True, "said": said})
 
     async def _list(self, request: Request) -> Response:
+        _only(request, *Filter.names(), "most")
         asked, most = Filter.of(request.query_params), request.query_params.get("most", "100")
         if not most.isascii() or not most.isdigit() or not 1 <= int(most[:9]) <= 10_000:
             raise TerminalError(f"most={most[:40]} is out of bounds: it is from 1 to 10000", 400)
@@ -410,6 +423,7 @@ class Ingress:
 
     def _act(self, name: str) -> Answer:
         async def act(request: Request) -> Response:
+            _only(request, *(("step",) if name == "restart" else ()))
             id, step = request.path_params["id"], _whole(request, "step", 0)
             if name == "restart" and step:
                 made = self.engine.done(lambda db, out: restarting.restart(db, self.engine.app, out, id, self._who(request), step))
@@ -421,6 +435,7 @@ class Ingress:
     async def _act_on_all(self, request: Request) -> Response:
         name, query = request.path_params["name"], request.query_params
         acts.known(name)
+        _only(request, *Filter.names(), "all", "dry_run")
         asked = Filter.of(query)
         if not (asked.given or query.get("all")):
             raise TerminalError("say which invocations, by ?status=, ?service= and the like; ?all=1 is all of them", 400)
@@ -437,6 +452,7 @@ class Ingress:
         return self._door.who(request.headers)
 
     async def _audit(self, request: Request) -> Response:
+        _only(request, "invocation", "most", "before")
         id, most, before = request.query_params.get("invocation"), _whole(request, "most", 100), _whole(request, "before", 0)
         return JSONResponse(await self.engine.transact(lambda db: audit.records(db, id, min(most, 10_000), before or None)))
 
