@@ -293,7 +293,8 @@ class Commands(support.InAFolder, unittest.TestCase):
         for words in ("127.0.0.1", "4194304", "(default: 60.0)", "(default: 1000)", "palqytun.db", "PALQYTUN_TOKEN", "MODULE:NAME"):
             self.assertIn(words, " ".join(said.split()))
         self.assertEqual(status, 0)
-        self.assertNotIn("(default: )", " ".join(said.split()))
+        for words in (["run"], ["invocations", "kill"], ["replay"]):
+            self.assertNotRegex(" ".join(palqytun(*words, "--help")[1].split()), r"\(default: (False)?\)")
         port = "port: it is from 1 to 65535, 0 is a free one, and -1 is no ingress"
         for words, why in [
             (["--limit", "0"], "argument --limit: '0' is no whole number from 1 on"),

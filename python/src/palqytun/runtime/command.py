@@ -364,7 +364,7 @@ class _Help(argparse.ArgumentDefaultsHelpFormatter):
     """Says what an option is without it, unless that is nothing."""
 
     def _get_help_string(self, action: argparse.Action) -> str | None:
-        return action.help if action.default in (None, "", [], argparse.SUPPRESS) else super()._get_help_string(action)
+        return action.help if action.default is False or action.default in (None, "", [], argparse.SUPPRESS) else super()._get_help_string(action)
 
 
 def _run_options(one: argparse.ArgumentParser) -> None:
