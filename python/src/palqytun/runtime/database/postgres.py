@@ -166,7 +166,8 @@ class _Server:
         try:
             with driver.named():
                 async with asyncio.timeout(patience):  # `wait_for` drops a cancellation that comes with the connection
-                    return await driver.psycopg.AsyncConnection.connect(server.conninfo, autocommit=True, **_OPTIONS)
+                    made: psycopg.AsyncConnection[Any] = await driver.psycopg.AsyncConnection.connect(server.conninfo, autocommit=True, **_OPTIONS)
+                    return made
         except asyncio.TimeoutError:
             raise Lost(f"the server hasn't replied for {patience:.1f} seconds") from None
 
