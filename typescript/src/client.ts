@@ -72,6 +72,8 @@ export class Client {
   #isLost = false;
   #isClosed = false;
   #opening: Promise<void> | undefined;
+  /** Milliseconds that a call waits for its transaction. @internal */
+  answered = ANSWERED;
 
   /** @internal */
   protected constructor(private db: Store, readonly services: ReadonlyMap<string, About>, private readonly payload: number, readonly codec: Codec) {}
@@ -126,11 +128,16 @@ export class Client {
   /** Commits an operation. Throws `Unavailable` if the database can't be used, or doesn't reply for too long. */
   async #transact<T>(operation: (to: Statements) => Promise<T>): Promise<T> {
     let timer: Timer | undefined;
+    let given: Unavailable | undefined; // nobody waits for it any more, so it isn't tried again
     const late = new Promise<never>((_, reject) => {
-      timer = setTimeout(() => reject(new Unavailable(`something has been in the way in the database for ${ANSWERED} ms`)), ANSWERED);
+      timer = setTimeout(() => reject((given = new Unavailable(`something has been in the way in the database for ${this.answered} ms`))), this.answered);
     });
+    const made = async (to: Statements): Promise<T> => {
+      if (given !== undefined) throw given;
+      return operation(to);
+    };
     try {
-      return await Promise.race([this.#opened().then((db) => db.transact(operation)), late]);
+      return await Promise.race([this.#opened().then((db) => db.transact(made)), late]);
     } catch (error) {
       if (error instanceof Lost) throw new Unavailable(`the database can't be used now: ${error.message}`);
       throw error;

@@ -36,6 +36,7 @@ const TOO_LARGE = '53200'; // of these, one for want of memory: by the statement
 const LOST = /^(08|57P|53300)/;
 const LONGEST_WAIT = 1000; // milliseconds between two tries of an operation
 const PATIENCE = 10_000; // milliseconds that a connection may take to be made
+const QUIET = 5000; // milliseconds after which a connection that is silent is asked whether its server is there
 const LAST = 2000; // milliseconds in which transactions may end once their database is closed
 const READ_ONLY = 'a worker has to write, and this session may only read: the server is a standby, or default_transaction_read_only is on';
 const TRIED = new Set([20, 200, 2000]);
@@ -71,7 +72,7 @@ export function configOf(url: string): Config {
   const found = parse(url);
   const port = /[?&]port=(\d+)/.exec(url)?.[1];
   if (port !== undefined) found['port'] = port;
-  return { ...found, types: { getTypeParser: read }, connectionTimeoutMillis: PATIENCE, keepAlive: true };
+  return { ...found, types: { getTypeParser: read }, connectionTimeoutMillis: PATIENCE, keepAlive: true, keepAliveInitialDelayMillis: QUIET };
 }
 
 function failed(error: unknown): Error {

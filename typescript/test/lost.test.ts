@@ -1,15 +1,18 @@
 // Lost databases: connections that end under a worker or a client or get no reply, and an invocation whose worker is lost at each attempt.
 
 import assert from 'node:assert/strict';
+import { readFileSync } from 'node:fs';
 import { test } from 'node:test';
 import { Client, Log, Unavailable, Worker, service } from '@palqytun/sdk';
 import type { ServiceContext } from '@palqytun/sdk';
+import { Client as Connection } from 'pg';
 import { LONG, URL, asked, stage, until } from './cluster';
 import type { Stage } from './cluster';
-import { Database } from '../database';
+import { Database, configOf } from '../database';
 import { Hearing } from '../hearing';
 import { Postgres } from '../postgres';
 import { Proxy } from './proxy';
+import { STATEMENTS } from '../statements';
 import { Lost } from '../tables';
 
 const SILENT = new Log({ write: () => undefined });
@@ -220,6 +223,38 @@ byProxy('a client that can\'t hear words, or that is closed while its database d
   await call;
   proxy.goOn();
   await until(() => proxy.open === 0);
+});
+
+byProxy('a silent connection is asked after five seconds whether its server is there', async (proxy) => {
+  const hears = await hearing(proxy);
+  const port = proxy.ports[0]?.toString(16).toUpperCase().padStart(4, '0');
+  const [line = ''] = readFileSync('/proc/net/tcp', 'utf8').split('\n').filter((it) => it.trim().split(/\s+/)[1] === `0100007F:${port}`);
+  const [timer = '', jiffies = ''] = (line.trim().split(/\s+/)[5] ?? '').split(':');
+  await hears.end();
+  assert.equal(timer, '02'); // that of a silent connection
+  assert(parseInt(jiffies, 16) <= 500, `${parseInt(jiffies, 16)} hundredths of a second`);
+});
+
+test('a client that waits in vain for another\'s lock says so, and what it gave up isn\'t made later', { timeout: LONG }, async () => {
+  const [on, client] = [await stage([work]), await Client.connect({ url: URL })];
+  const blocker = new Connection(configOf(URL));
+  try {
+    await blocker.connect();
+    for (const it of STATEMENTS.session) await blocker.query(it.text);
+    await blocker.query('BEGIN');
+    const row = "INSERT INTO invocations(id, service, handler, key, exclusive, version, idem, seed, status, due, entries, created) VALUES ('inv_held', 'Lost', 'healthy', '', 0, 7, 'once', 1, 'ready', 1e12, 1, 1)";
+    await blocker.query(row); // who makes one with the same idempotency key waits for its end
+    (client as unknown as { answered: number }).answered = 200;
+    await assert.rejects(client.send('Lost/healthy', 1, { idempotencyKey: 'once' }), (error: unknown) => error instanceof Unavailable && error.message === 'something has been in the way in the database for 200 ms');
+    await after(1500); // its lock is waited for a second
+    await blocker.query('ROLLBACK');
+    await after(1500);
+    assert.deepEqual(await asked("SELECT id FROM invocations WHERE idem='once' AND service='Lost'"), []);
+  } finally {
+    await blocker.end();
+    await client.close();
+    await on.end();
+  }
 });
 
 /** What a server sends that ends a connection as an administrator told it. */

@@ -39,6 +39,11 @@ export class Proxy {
     return `postgresql://${String(user)}@127.0.0.1:${this.#server.address().port}/${String(database)}`;
   }
 
+  /** The ports of the clients whose connections are open. */
+  get ports(): number[] {
+    return [...this.#pairs].map((it) => it.client.remotePort);
+  }
+
   /** How many connections of clients are open. */
   get open(): number {
     return this.#pairs.size;

@@ -166,8 +166,8 @@ class _Server:
         try:
             with driver.named():
                 async with asyncio.timeout(patience):  # `wait_for` drops a cancellation that comes with the connection
-                    made: psycopg.AsyncConnection[Any] = await driver.psycopg.AsyncConnection.connect(server.conninfo, autocommit=True, **_OPTIONS)
-                    return made
+                    found: psycopg.AsyncConnection[Any] = await driver.psycopg.AsyncConnection.connect(server.conninfo, autocommit=True, **_OPTIONS)
+                return found
         except asyncio.TimeoutError:
             raise Lost(f"the server hasn't replied for {patience:.1f} seconds") from None
 
