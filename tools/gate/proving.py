@@ -26,6 +26,7 @@ ARCHIVE = "crates/ffi/out/libffi.a"  # below the folder in which it is proved
 PROOFS, BUILDS = "proofs", "builds"
 CHAIN, LOW, TAIL = (f"{PROOFS}/{it}" for it in ("chain", "low", "tail"))
 LINE = "vm_machine"  # from it on each crate of the longest chain waits for the one before
+VM = "invocation_vm"  # what isn't on the chain, and stands on its last part, stands on this
 NEAR, HEAD = "world_rounds", "engines"  # the longest chain of crates leads to them
 END = "vmengine"  # and then here, with what reads lines
 ROOM = 5_000_000  # kilobytes for each processor, if two runs of rt ci prove beside each other
@@ -94,7 +95,7 @@ def beside(trees: Trees, proofs: Job, after: int | None) -> Iterator[Job]:
     yield replace(low, env={"RT_JOBS": str(lanes() + 1)})  # one of them waits for the chain
     tail = replace(proofs, name=TAIL, counts=counts.of_status, folder=str(trees.tail), words=once_proved(NEAR, proofs.words))
     yield replace(tail, cores=0, env=freely)
-    yield replace(proofs, words=words, after=(LOW,), cores=0, env={"RT_JOBS": str(lanes())})
+    yield replace(proofs, words=once_proved(VM, words), cores=0, env={"RT_JOBS": str(lanes())})
 
 
 def once_ended(process: int | None, words: tuple[str, ...]) -> tuple[str, ...]:

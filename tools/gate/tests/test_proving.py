@@ -28,7 +28,7 @@ class Order(unittest.TestCase):
         half = subprocess.run([*chain.words[:3], "nproc"], capture_output=True, text=True, check=True)
         self.assertEqual(int(half.stdout), (processors() + 1) // 2)
         self.assertEqual((low.words[-2:], low.folder, low.after, low.cores), (("rt", "ci"), "low", (), 0))
-        self.assertEqual((proofs.words[-2:], proofs.folder, proofs.after, proofs.cores), (("rt", "ci"), str(tree.place()), (proving.LOW,), 0))
+        self.assertEqual((proofs.words[-2:], proofs.folder, proofs.after, proofs.cores), (("rt", "ci"), str(tree.place()), (), 0))
         self.assertEqual([it.env for it in (low, proofs)], [{"RT_JOBS": str(lanes() + 1)}, {"RT_JOBS": str(lanes())}])
 
     def test_what_stands_beside_the_chain_waits_for_a_process_if_one_is_named(self) -> None:
@@ -53,17 +53,22 @@ class Order(unittest.TestCase):
         waits = subprocess.run((*low.words[:-2], "echo", "begun"), capture_output=True, text=True, timeout=60)
         self.assertEqual(waits.stdout, "begun\n")
 
-    def test_the_end_of_the_chain_waits_until_the_chain_is_near_it(self) -> None:
-        tail = self.runs()[2]
+    def test_all_and_the_end_of_the_chain_wait_until_the_chain_has_come_so_far(self) -> None:
+        _, _, tail, proofs = self.runs()
         self.assertEqual((tail.words[-2:], tail.folder, tail.env, tail.cores), (("rt", "ci"), "tail", {"RT_JOBS": ""}, 0))
+        for one, crate in ((tail, "world_rounds"), (proofs, "invocation_vm")):
+            self.waits_for(crate, one.words[:-2])
+
+    def waits_for(self, crate: str, words: tuple[str, ...]) -> None:
+        """A command waits until the chain's run says that a crate is proved."""
         with tempfile.TemporaryDirectory() as room:
             log = Path(room, "log")
-            log.write_text("rt: vm_attempt proved\n", encoding="utf-8")
-            words = [str(log) if it.endswith("proofs-chain.log") else it for it in tail.words[:-2]]
-            waits = subprocess.Popen((*words, "echo", "begun"), stdout=subprocess.PIPE, text=True, cwd=room)
+            log.write_text("rt: vm_machine proved\n", encoding="utf-8")
+            named = [str(log) if it.endswith("proofs-chain.log") else it for it in words]
+            waits = subprocess.Popen((*named, "echo", "begun"), stdout=subprocess.PIPE, text=True, cwd=room)
             time.sleep(1)
             self.assertIsNone(waits.poll())
-            log.write_text("rt: vm_attempt proved\nrt: world_rounds proved\n", encoding="utf-8")
+            log.write_text(f"rt: vm_machine proved\nrt: {crate} proved\n", encoding="utf-8")
             self.assertEqual(waits.communicate(timeout=60)[0], "begun\n")
 
     def test_all_is_proved_at_once_if_nothing_is_kept(self) -> None:
