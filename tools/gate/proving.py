@@ -78,18 +78,12 @@ def jobs(seconds: dict[str, float], trees: Trees | None, after: int | None) -> I
         yield replace(it, seconds=max(round(seconds.get(it.name, it.seconds)), 1))
 
 
-def on_half(words: tuple[str, ...]) -> tuple[str, ...]:
-    """A command that has every second processor: rt ci has as many processes as it has processors, and a lone check gets all of them."""
-    those = sorted(os.sched_getaffinity(0))[::2]
-    return ("taskset", "-c", ",".join(map(str, those)), *words)
-
-
 def beside(trees: Trees, proofs: Job, after: int | None) -> Iterator[Job]:
     """rt ci of the longest chain, of the crates below its last part, of all, and of the chain's end. Each run takes what another has proved, and waits for what
     it is proving. That of all crates begins late: a run that proves a crate is the first to begin the next, and this one has one process for each, so it would
-    take the chain over. That of the end is ready in time, has nothing else to do, and so gives a check all processors."""
+    take the chain over. Those of the chain and of its end have no RT_JOBS, so a check has two processes while no other of its run waits."""
     freely = {"RT_JOBS": ""}
-    yield replace(proofs, name=CHAIN, counts=counts.of_status, folder=str(trees.chain), words=on_half(proofs.words), env=freely)
+    yield replace(proofs, name=CHAIN, counts=counts.of_status, folder=str(trees.chain), env=freely)
     words = with_priority(BESIDE_CHAIN, proofs.words)
     low = replace(proofs, name=LOW, counts=counts.of_status, folder=str(trees.low), words=once_ended(after, words), cores=0)
     yield replace(low, env={"RT_JOBS": str(lanes() + 1)})  # one of them waits for the chain

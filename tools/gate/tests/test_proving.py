@@ -9,7 +9,7 @@ from pathlib import Path
 from unittest import mock
 
 from tools.gate import proving, tree
-from tools.gate.environment import TOP, lanes, processors
+from tools.gate.environment import TOP, lanes
 from tools.gate.jobs import Job
 from tools.gate.proofs import read_crates
 
@@ -21,12 +21,10 @@ class Order(unittest.TestCase):
         """Those of rt ci."""
         return [it for it in proving.every_job(trees, after) if it.part == proving.PROOFS]
 
-    def test_the_chain_has_half_of_the_processors_and_as_many_processes_as_rt_gives_a_check(self) -> None:
+    def test_the_chain_has_as_many_processes_as_rt_gives_a_check(self) -> None:
         chain, low, tail, proofs = self.runs()
         self.assertEqual([it.name for it in (chain, low, tail, proofs)], [proving.CHAIN, proving.LOW, proving.TAIL, proving.PROOFS])
-        self.assertEqual((chain.words[:2], chain.words[3:], chain.folder, chain.env), (("taskset", "-c"), ("rt", "ci"), "chain", {"RT_JOBS": ""}))
-        half = subprocess.run([*chain.words[:3], "nproc"], capture_output=True, text=True, check=True)
-        self.assertEqual(int(half.stdout), (processors() + 1) // 2)
+        self.assertEqual((chain.words, chain.folder, chain.env), (("rt", "ci"), "chain", {"RT_JOBS": ""}))
         self.assertEqual((low.words[-2:], low.folder, low.after, low.cores), (("rt", "ci"), "low", (), 0))
         self.assertEqual((proofs.words[-2:], proofs.folder, proofs.after, proofs.cores), (("rt", "ci"), str(tree.place()), (), 0))
         self.assertEqual([it.env for it in (low, proofs)], [{"RT_JOBS": str(lanes() + 1)}, {"RT_JOBS": str(lanes())}])
