@@ -15,6 +15,7 @@ from palqytun import frames
 from palqytun.runtime import App, Context, Queue, Retry, Service, TerminalError, VirtualObject, Workflow, acts, deadlines, gather, inbox, invocations
 from palqytun.runtime import claiming, journal, operate, watchdog
 from palqytun.runtime.claiming import Claimer
+from palqytun.runtime.committer import Committer
 from palqytun.runtime.database import Reading, connect
 from palqytun.runtime.database.plain import Plain
 from palqytun.runtime.filters import Filter
@@ -286,14 +287,29 @@ class Lost(OnOne):
 @support.on_each_database
 class Timers(OnOne):
     def test_one_that_fires_as_its_attempt_is_suspended(self):
-        """The claim that fires it leaves it to the attempt, which has ended by then. So the worker claims again, and doesn't wait until it looks by itself."""
+        """A claim that waits for its turn leaves it to an attempt that has ended by then. So the worker claims again, and doesn't wait until it looks by
+        itself."""
+        submit, left = Committer.submit, []
 
         async def go():
             async with Runtime(app, self.url, idle=0, poll=10 * support.LONG) as runtime:
-                for _ in range(200):
+
+                async def later(committer, claim):
+                    while runtime.engine.live:
+                        await asyncio.sleep(0.005)
+                    left.append(claim)
+                    return await submit(committer, claim)
+
+                def submitted(committer, operation, *more, **named):
+                    if operation.__qualname__.startswith("Engine._loop.") and runtime.engine.live:
+                        return asyncio.ensure_future(later(committer, operation))
+                    return submit(committer, operation, *more, **named)
+
+                with mock.patch.object(Committer, "submit", submitted):
                     self.assertIsNone(await runtime.call("Claims/sleeps", 0))
 
         asyncio.run(asyncio.wait_for(go(), support.LONG))
+        self.assertTrue(left)
 
 
 @support.on_each_database

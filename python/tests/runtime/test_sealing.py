@@ -15,6 +15,7 @@ from palqytun.runtime.serving import Settings
 from palqytun.testing import crash_everywhere
 from served import Served
 from spoken import palqytun
+from support import Runtime
 
 FIRST, SECOND = {"a": bytes(range(32))}, {"a": bytes(range(32)), "b": bytes(range(64))}
 SECRET = "card-4242"
@@ -153,6 +154,29 @@ class Sealing(support.OnADatabase):
         ids = asyncio.run(first())
         asyncio.run(second(ids))
         asyncio.run(without(ids))
+
+    def test_a_worker_of_another_version_without_the_key_takes_over_what_it_can_read(self):
+        """It says of the others why it doesn't."""
+
+        async def first():
+            ids = []
+            for codec in (Sealed(JsonCodec(), FIRST, "a"), Sealed(JsonCodec(), SECOND, "b")):
+                async with Runtime(made(codec), self.url, version="first") as runtime:
+                    sent = await runtime.engine.client.send("Shop/order", SECRET)
+                    while await runtime.rows("SELECT 1 FROM attributes WHERE invocation=?", sent.id) == []:
+                        await asyncio.sleep(0.02)
+                    await runtime.until(sent.id, "suspended")
+                    ids.append(sent.id)
+            return ids
+
+        async def second(ids):
+            async with Runtime(made(Sealed(JsonCodec(), {"b": SECOND["b"]}, "b")), self.url, version="second") as runtime:
+                wanted = "no worker has its version first, and second can't go on with it: the argument: it is encrypted by the key a, and there are b"
+                await runtime.until_rows([(wanted,)], "SELECT error FROM invocations WHERE id=?", ids[0])
+                await runtime.until_rows([("second",)], "SELECT code FROM invocations WHERE id=?", ids[1])
+
+        ids = asyncio.run(first())
+        asyncio.run(second(ids))
 
     def test_a_worker_without_the_key_ends_nothing(self):
         async def begins():

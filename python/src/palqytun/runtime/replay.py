@@ -16,7 +16,7 @@ from palqytun.errors import Code, in_words
 
 from .. import core
 from . import journal, parting, sealing
-from .codec import BadValue, decoded, encoded
+from .codec import BadValue, Unreadable, decoded, encoded
 from .context import AttemptEnds, CaughtTooMuch, Context, ReplayLog, given_failure
 from .contexts import kind_of
 from .database import Database
@@ -150,7 +150,7 @@ def _replayed(app: App, vm: core.VM, context: Context, handler: Handler[Any, Any
     """Runs the handler as far as the journal goes; returns what it raised while it was replayed."""
     try:
         argument = decoded(context.codec, given, handler.takes)
-    except BadValue as error:
+    except (BadValue, Unreadable) as error:
         return f"the argument: {error}"
     main: Task[Any] = Task(handler.function(context, argument))  # type: ignore[arg-type]
     context.tasks = Tasks(main)
@@ -160,6 +160,8 @@ def _replayed(app: App, vm: core.VM, context: Context, handler: Handler[Any, Any
         pass  # suspended at the journal's end, or refused, and then the core has said so
     except CaughtTooMuch as error:
         return str(error)
+    except Unreadable as error:  # also of the last result: an attempt couldn't go on
+        return f"a value that can't be read: {error}"
     except BaseException as error:  # a handler's `sys.exit()` ends no command, and no worker
         return f"{type(error).__name__}: {error}" if vm.state() == "Replaying" else None
     finally:
