@@ -26,9 +26,9 @@ ARCHIVE = "crates/ffi/out/libffi.a"  # below the folder in which it is proved
 PROOFS, BUILDS = "proofs", "builds"
 CHAIN, LOW, TAIL = (f"{PROOFS}/{it}" for it in ("chain", "low", "tail"))
 LINE = "vm_machine"  # from it on each crate of the longest chain waits for the one before
-VM = "invocation_vm"  # what isn't on the chain, and stands on its last part, stands on this
-NEAR, HEAD = "world_rounds", "engines"  # the longest chain of crates leads to them
+HEAD = "engines"  # the longest chain of crates leads to it
 END = "vmengine"  # and then here, with what reads lines
+BEFORE_END, BEFORE_ALL = "invocation_vm", "vm_attempt"  # once they are proved, the run of the end begins, and that of all after it
 ROOM = 5_000_000  # kilobytes for each processor, if two runs of rt ci prove beside each other
 HOURS = 6 * 3600  # that rt ci may take
 SMALL = 1_500_000  # kilobytes for a job that proves nothing
@@ -80,16 +80,16 @@ def jobs(seconds: dict[str, float], trees: Trees | None, after: int | None) -> I
 
 def beside(trees: Trees, proofs: Job, after: int | None) -> Iterator[Job]:
     """rt ci of the longest chain, of the crates below its last part, of all, and of the chain's end. Each run takes what another has proved, and waits for what
-    it is proving. That of all crates begins late: a run that proves a crate is the first to begin the next, and this one has one process for each, so it would
-    take the chain over. Those of the chain and of its end have no RT_JOBS, so a check has two processes while no other of its run waits."""
+    it is proving. That of all crates begins last: whoever proves a crate, or was the first to wait for it, begins the next, and this run has one process for each, so
+    it would take the chain over. Those of the chain and of its end have no RT_JOBS, so a check has two processes while no other of its run waits."""
     freely = {"RT_JOBS": ""}
     yield replace(proofs, name=CHAIN, counts=counts.of_status, folder=str(trees.chain), env=freely)
     words = with_priority(BESIDE_CHAIN, proofs.words)
     low = replace(proofs, name=LOW, counts=counts.of_status, folder=str(trees.low), words=once_ended(after, words), cores=0)
     yield replace(low, env={"RT_JOBS": str(lanes() + 1)})  # one of them waits for the chain
-    tail = replace(proofs, name=TAIL, counts=counts.of_status, folder=str(trees.tail), words=once_proved(NEAR, proofs.words))
+    tail = replace(proofs, name=TAIL, counts=counts.of_status, folder=str(trees.tail), words=once_proved(BEFORE_END, proofs.words))
     yield replace(tail, cores=0, env=freely)
-    yield replace(proofs, words=once_proved(VM, words), cores=0, env={"RT_JOBS": str(lanes())})
+    yield replace(proofs, words=once_proved(BEFORE_ALL, words), cores=0, env={"RT_JOBS": str(lanes())})
 
 
 def once_ended(process: int | None, words: tuple[str, ...]) -> tuple[str, ...]:

@@ -54,7 +54,7 @@ class Order(unittest.TestCase):
     def test_all_and_the_end_of_the_chain_wait_until_the_chain_has_come_so_far(self) -> None:
         _, _, tail, proofs = self.runs()
         self.assertEqual((tail.words[-2:], tail.folder, tail.env, tail.cores), (("rt", "ci"), "tail", {"RT_JOBS": ""}, 0))
-        for one, crate in ((tail, "world_rounds"), (proofs, "invocation_vm")):
+        for one, crate in ((tail, "invocation_vm"), (proofs, "vm_attempt")):
             self.waits_for(crate, one.words[:-2])
 
     def waits_for(self, crate: str, words: tuple[str, ...]) -> None:
@@ -96,7 +96,7 @@ class Trees(unittest.TestCase):
         assert found is not None
         chain, low, tail = (set(read_crates(it, ())) for it in (found.chain, found.low, found.tail))
         self.assertEqual((chain, tail), (tree.below(self.crates, [proving.HEAD]), tree.below(self.crates, [proving.END])))
-        self.assertLess({proving.LINE, proving.NEAR}, chain)
+        self.assertLess({proving.LINE, proving.BEFORE_END, proving.BEFORE_ALL}, chain)
         self.assertLess(chain, tail)
         self.assertEqual(low, {it for it in self.crates if proving.LINE not in tree.below(self.crates, [it])})
         self.assertEqual(list(self.room.glob("*/crates/*/must-fail")), [])
