@@ -176,7 +176,7 @@ class Made(Own, unittest.TestCase):
         """One line says what is wanted, and nothing is made."""
         for parts in (0, partitions.MOST + 1, "many"):
             status, said = self.migrated(parts)
-            self.assertEqual((status, said.splitlines()[-1].split("error: ")[1]), (2, f"argument --partitions: invalid number from 1 to 1024 value: '{parts}'"))
+            self.assertEqual((status, said.splitlines()[-1].split("error: ")[1]), (2, f"argument --partitions: '{parts}' is no whole number from 1 to 1024"))
         sessions = sum(self.rows("SELECT current_setting('max_connections')::bigint, current_setting('max_prepared_transactions')::bigint")[0])
         many = partitions.needed(partitions.MOST)
         self.assertEqual(many, 12 * 60 * 1024)
