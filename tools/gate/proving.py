@@ -29,7 +29,7 @@ LINE = "vm_machine"  # from it on each crate of the longest chain waits for the 
 HEAD = "engines"  # the longest chain of crates leads to it
 END = "vmengine"  # and then here, with what reads lines
 BEFORE_END, BEFORE_ALL = "invocation_vm", "vm_attempt"  # once they are proved, the run of the end begins, and that of all after it
-ROOM = 5_000_000  # kilobytes for each processor, if two runs of rt ci prove beside each other
+ROOM = 5_000_000  # kilobytes for each processor, if several runs of rt ci prove beside each other
 HOURS = 6 * 3600  # that rt ci may take
 SMALL = 1_500_000  # kilobytes for a job that proves nothing
 MOMENT = 10  # seconds by which the longest chain begins before what is beside it
@@ -191,7 +191,7 @@ def arguments(words: list[str]) -> argparse.Namespace:
     parser.add_argument("--no-skips", action="store_true", help="a skip is a failure")
     many = f"how many crates are proved at a time, and then how many jobs run ({lanes()} and {cores(SMALL)})"
     parser.add_argument("--jobs", type=int, metavar="N", help=many)
-    parser.add_argument("--after", type=int, metavar="PID", help="until this process has ended prove the longest chain alone, if two runs prove beside each other")
+    parser.add_argument("--after", type=int, metavar="PID", help="until this process has ended prove the longest chain alone, if several runs prove beside each other")
     options = parser.parse_args(words)
     if options.jobs is not None and options.jobs < 1:
         parser.error("--jobs wants a number above 0")
