@@ -9,7 +9,7 @@ import shutil
 import signal
 import sys
 import time
-from collections.abc import Iterator, Mapping
+from collections.abc import Iterator, Mapping, Sequence
 from dataclasses import dataclass, replace
 from pathlib import Path
 
@@ -24,11 +24,9 @@ OUT = "out/prove"
 TIMES = Path(OUT, "times.json")
 ARCHIVE = "crates/ffi/out/libffi.a"  # below the folder in which it is proved
 PROOFS, BUILDS = "proofs", "builds"
-CHAIN, LOW, TAIL = (f"{PROOFS}/{it}" for it in ("chain", "low", "tail"))
 LINE = "vm_machine"  # from it on each crate of the longest chain waits for the one before
 HEAD = "engines"  # the longest chain of crates leads to it
-END = "vmengine"  # and then here, with what reads lines
-BEFORE_END, BEFORE_ALL = "invocation_vm", "vm_attempt"  # once they are proved, the run of the end begins, and that of all after it
+BEFORE_ALL = "vm_attempt"  # once it is proved, the run of all crates begins
 ROOM = 5_000_000  # kilobytes for each processor, if several runs of rt ci prove beside each other
 HOURS = 6 * 3600  # that rt ci may take
 SMALL = 1_500_000  # kilobytes for a job that proves nothing
@@ -36,6 +34,38 @@ MOMENT = 10  # seconds by which the longest chain begins before what is beside i
 PATIENCE = 900  # seconds that the crates beside the longest chain wait for another process
 LOOK = 2  # seconds between two looks at the processes
 BESIDE_CHAIN = 10  # the priority of what is proved beside the longest chain
+
+
+@dataclass(frozen=True)
+class Run:
+    """A run of rt ci over some crates and what they stand on. It begins at once, or once another crate is proved."""
+
+    name: str
+    ends: tuple[str, ...]
+    after: str = ""
+
+    @property
+    def job(self) -> str:
+        return f"{PROOFS}/{self.name}"
+
+    @property
+    def log(self) -> Path:
+        return TOP / OUT / "logs" / f"{PROOFS}-{self.name}.log"
+
+
+# The longest chain, piece by piece: where one crate alone is left in a run, its check has two processes. A run begins before the last crate that it waits for is
+# proved, and has no crate that the runs before it are to prove so.
+CHAIN = (
+    Run("bodies", ("journal_values",)),
+    Run("types", ("vm_types",)),
+    Run("parts", ("journal_replay", "journal_entries", "vm_parts", "await_tries")),
+    Run("machine", (LINE,), after="await_trees"),
+    Run("vm", ("invocation_vm",), after="vm_asks"),
+    Run("attempt", (BEFORE_ALL,), after=LINE),
+    Run("engine", (HEAD,), after="invocation_vm"),
+    Run("end", ("vmengine",), after=BEFORE_ALL),
+)
+LOW = f"{PROOFS}/low"  # what doesn't depend on the crate from which on the chain is a line
 
 ABOUT = """Proves every crate except those of tests and the bench, and has the prover refuse the wrong bodies of the gate (rt ci, in a folder of its own).
 Then each program runs once without each of its allocations in turn, and so do the examples in C and Python, over the library built from
@@ -61,50 +91,45 @@ PARTS = [
 ]
 
 
-@dataclass(frozen=True)
-class Trees:
-    """The folders in which some crates are proved beside all: those of the longest chain, those that don't stand on the part of it that is one crate after
-    another, and those up to its end."""
-
-    chain: Path
-    low: Path
-    tail: Path
-
-
-def jobs(seconds: dict[str, float], trees: Trees | None, after: int | None) -> Iterator[Job]:
-    """The jobs of ./prove, with the seconds that they took last time. If there are folders of some crates, these are also proved there. The longest chain
-    begins at once, and the crates beside it once a process has ended, if one is given. One rt ci alone waits for nothing."""
+def jobs(seconds: dict[str, float], trees: Mapping[str, Path] | None, after: int | None) -> Iterator[Job]:
+    """The jobs of ./prove, with the seconds that they took last time. If there are folders of some crates, by the names of their runs, these are also proved
+    there. The longest chain begins at once, and the crates beside it once a process has ended, if one is given. One rt ci alone waits for nothing."""
     for it in every_job(trees, after):
         yield replace(it, seconds=max(round(seconds.get(it.name, it.seconds)), 1))
 
 
-def beside(trees: Trees, proofs: Job, after: int | None) -> Iterator[Job]:
-    """rt ci of the longest chain, of the crates below its last part, of all, and of the chain's end. Each run takes what another has proved, and waits for what
-    it is proving. That of all crates begins last: whoever proves a crate, or was the first to wait for it, begins the next, and this run has one process for each, so
-    it would take the chain over. Those of the chain and of its end have no RT_JOBS, so a check has two processes while no other of its run waits."""
-    freely = {"RT_JOBS": ""}
-    yield replace(proofs, name=CHAIN, counts=counts.of_status, folder=str(trees.chain), env=freely)
+def beside(trees: Mapping[str, Path], proofs: Job, after: int | None) -> Iterator[Job]:
+    """rt ci of the longest chain, of what doesn't depend on its last part, and of all. Each run takes what another has proved, and waits for what it is proving.
+    That of all crates begins last: whoever proves a crate, or was the first to wait for it, begins the next, and this run has one process for each, so it
+    would take the chain over. Those of the chain have no RT_JOBS, so a check has two processes while no other of its run waits."""
+    for at, it in enumerate(CHAIN):
+        words = once_proved(it.after, CHAIN[:at], proofs.words) if it.after else proofs.words if at == 0 else after_moment(proofs.words)
+        one = replace(proofs, name=it.job, counts=counts.of_status, folder=str(trees[it.job]), words=words, env={"RT_JOBS": ""})
+        yield one if at == 0 else replace(one, cores=0)
     words = with_priority(BESIDE_CHAIN, proofs.words)
-    low = replace(proofs, name=LOW, counts=counts.of_status, folder=str(trees.low), words=once_ended(after, words), cores=0)
+    waits = after_moment(words) if after is None else once_ended(after, words)
+    low = replace(proofs, name=LOW, counts=counts.of_status, folder=str(trees[LOW]), words=waits, cores=0)
     yield replace(low, env={"RT_JOBS": str(lanes() + 1)})  # one of them waits for the chain
-    tail = replace(proofs, name=TAIL, counts=counts.of_status, folder=str(trees.tail), words=once_proved(BEFORE_END, proofs.words))
-    yield replace(tail, cores=0, env=freely)
-    yield replace(proofs, words=once_proved(BEFORE_ALL, words), cores=0, env={"RT_JOBS": str(lanes())})
+    yield replace(proofs, words=once_proved(BEFORE_ALL, CHAIN, words), cores=0, env={"RT_JOBS": str(lanes())})
 
 
-def once_ended(process: int | None, words: tuple[str, ...]) -> tuple[str, ...]:
-    """A command that begins once a process has ended, or has taken too long; if none is given, a moment later."""
-    waits = f"sleep {MOMENT}" if process is None else f'timeout {PATIENCE} tail --pid="$0" -f /dev/null'
-    return ("sh", "-c", f'{waits}; exec "$@"', str(process), *words)
+def after_moment(words: tuple[str, ...]) -> tuple[str, ...]:
+    """A command that begins a moment later."""
+    return ("sh", "-c", 'sleep "$0"; exec "$@"', str(MOMENT), *words)
 
 
-def once_proved(crate: str, words: tuple[str, ...]) -> tuple[str, ...]:
-    """A command that begins once the run of the longest chain has proved a crate, or has ended."""
-    log = TOP / OUT / "logs" / f"{CHAIN.replace('/', '-')}.log"
-    return (sys.executable, "-B", str(TOP / "tools/gate/waiting.py"), str(log), crate, *words)
+def once_ended(process: int, words: tuple[str, ...]) -> tuple[str, ...]:
+    """A command that begins once a process has ended, or has taken too long."""
+    return ("sh", "-c", f'timeout {PATIENCE} tail --pid="$0" -f /dev/null; exec "$@"', str(process), *words)
 
 
-def every_job(trees: Trees | None, after: int | None = None) -> Iterator[Job]:
+def once_proved(crate: str, runs: Sequence[Run], words: tuple[str, ...]) -> tuple[str, ...]:
+    """A command that begins once one of these runs has proved a crate, or all have ended."""
+    logs = ",".join(str(it.log) for it in runs)
+    return (sys.executable, "-B", str(TOP / "tools/gate/waiting.py"), logs, crate, *words)
+
+
+def every_job(trees: Mapping[str, Path] | None, after: int | None = None) -> Iterator[Job]:
     # rt ci takes all cores for itself; the library is built in its last minutes, as soon as what it stands on is proved.
     room, logs = tree.place(), TOP / OUT / "logs"
     proofs = replace(job(PROOFS, "rt", "ci"), seconds=2400, cores=1000, limit=HOURS, folder=str(room))
@@ -135,7 +160,7 @@ class ShowProofs(Show):
         super().__init__(those, is_strict)
         self.proofs, self.cores, self.processors = proofs, cores, Processors()
         self.chain = tree.below(proofs.crates, [HEAD] if HEAD in proofs.crates else proofs.crates)
-        self.read = {it: 0 for it in (CHAIN, LOW, TAIL, PROOFS)}
+        self.read = {it: 0 for it in (*(run.job for run in CHAIN), LOW, PROOFS)}
         self.looked = 0.0
 
     def ticked(self) -> None:
@@ -182,7 +207,7 @@ class ShowProofs(Show):
 
     def _later(self) -> float:
         """The seconds of what follows rt ci. The library is built beside it, and the examples run over it."""
-        return sum(seconds for name, seconds in self.seconds.items() if name not in (CHAIN, LOW, TAIL, PROOFS, "library", "bindings", BUILDS)) / self.cores
+        return sum(seconds for name, seconds in self.seconds.items() if name not in (*self.read, "library", "bindings", BUILDS)) / self.cores
 
 
 def arguments(words: list[str]) -> argparse.Namespace:
@@ -206,17 +231,17 @@ def write_times(proofs: Proofs, last: dict[str, float], done: dict[str, Done]) -
     TIMES.write_text(json.dumps(found, indent=1) + "\n", encoding="utf-8")
 
 
-def made_trees(crates: Mapping[str, Crate], is_set: bool) -> Trees | None:
-    """The folders of the crates that are proved beside all: unless somebody has said how many to prove at a time, memory is short, or nothing would be
-    kept."""
+def made_trees(crates: Mapping[str, Crate], is_set: bool) -> dict[str, Path] | None:
+    """The folders of the crates that are proved beside all, by the names of their runs: unless somebody has said how many to prove at a time, memory is short,
+    or nothing would be kept."""
     if is_set or processors() < 2 or not keeps_proofs() or free_memory() < ROOM * processors():
         return None
-    low = [it for it in crates if LINE not in tree.below(crates, [it])]
-    made = {"chain": tree.below(crates, [HEAD]), "low": low, "tail": tree.below(crates, [END])}
-    found = {it: tree.place(name=f"prove-{it}") for it in made}
+    made = {it.job: tree.below(crates, it.ends) for it in CHAIN}
+    made[LOW] = {it for it in crates if LINE not in tree.below(crates, [it])}
+    found = {it: tree.place(name=it.replace("/", "-")) for it in made}
     for it, names in made.items():
         tree.make(TOP, found[it], names, but=["must-fail"])  # the run of all crates tries these
-    return Trees(**found)
+    return found
 
 
 def run(options: argparse.Namespace) -> int:
@@ -239,7 +264,7 @@ def run(options: argparse.Namespace) -> int:
         done = runner.run()
     finally:
         write_times(proofs, of_jobs, runner.done)
-        for it in (trees.chain, trees.low, trees.tail) if trees else ():
+        for it in trees.values() if trees else ():
             shutil.rmtree(it, ignore_errors=True)
     show.close()
     found = total(done, options.no_skips)

@@ -44,6 +44,7 @@ declare module 'node:worker_threads' {
     constructor(file: string, options: { workerData: unknown });
     on(event: 'message', heard: (message: unknown) => void): void;
     on(event: 'error', heard: (error: Error) => void): void;
+    on(event: 'exit', heard: () => void): void;
     postMessage(message: unknown): void;
     terminate(): Promise<number>;
     unref(): void;

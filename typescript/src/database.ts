@@ -298,7 +298,11 @@ export class Database implements Store {
     for (;;) {
       if (this.#lost !== undefined) throw this.#lost;
       const idle = this.#idle.pop();
-      if (idle !== undefined) return idle;
+      if (idle !== undefined) {
+        if (!idle.isBroken) return idle;
+        this.#drop(idle); // it ended while nobody used it
+        continue;
+      }
       if (this.#all.size + this.#making.size < this.most) return this.#made();
       const came = await new Promise<Connection | undefined>((resolve) => this.#waiting.push(resolve));
       if (came !== undefined) return came;
@@ -323,15 +327,16 @@ export class Database implements Store {
   }
 
   #give(connection: Connection): void {
-    if (connection.isBroken || this.#lost !== undefined) {
-      this.#all.delete(connection);
-      connection.close();
-      this.#waiting.shift()?.(); // there is room for one that it makes
-      return;
-    }
+    if (connection.isBroken || this.#lost !== undefined) return this.#drop(connection);
     const next = this.#waiting.shift();
     if (next === undefined) this.#idle.push(connection);
     else next(connection);
+  }
+
+  #drop(connection: Connection): void {
+    this.#all.delete(connection);
+    connection.close();
+    this.#waiting.shift()?.(); // there is room for one that it makes
   }
 
   #isLost(lost: Lost): void {

@@ -28,15 +28,41 @@ export class Postgres implements Place {
 
   beats(worker: string, kept: () => void): Ends {
     if (this.beating === undefined) throw new Error('a client has no lease');
-    const data: BeatsData = { url: this.url, worker, ...this.beating };
-    const thread = new Thread(`${__dirname}/beats.js`, { workerData: data });
+    return new Beats({ url: this.url, worker, ...this.beating }, kept, this.log);
+  }
+}
+
+/** The thread of beats. If it ends by itself another one begins: without a lease others claim what the worker is doing. */
+export class Beats implements Ends {
+  #thread: Thread;
+  #isOver = false;
+
+  constructor(private readonly data: BeatsData, private readonly kept: () => void, private readonly log: Log) {
+    this.#thread = this.#begun();
+  }
+
+  async end(): Promise<void> {
+    this.#isOver = true;
+    this.#thread.postMessage('end');
+  }
+
+  #begun(): Thread {
+    const thread = new Thread(`${__dirname}/beats.js`, { workerData: this.data });
     thread.on('message', (message) => {
       const word = message as BeatsWord;
-      if ('beat' in word) kept();
+      if ('beat' in word) this.kept();
       if ('failed' in word) this.log.warning(`a beat wasn't stored: ${word.failed}`);
     });
-    thread.on('error', (error) => this.log.error(`the thread of beats has ended: ${said(error)}`));
+    thread.on('error', (error) => this.log.error(`the thread of beats has ended, and another one begins: ${said(error)}`));
+    thread.on('exit', () => this.#exited());
     thread.unref();
-    return { end: async () => thread.postMessage('end') };
+    return thread;
+  }
+
+  #exited(): void {
+    if (this.#isOver) return;
+    setTimeout(() => {
+      if (!this.#isOver) this.#thread = this.#begun();
+    }, SHORTEST).unref();
   }
 }

@@ -10,7 +10,7 @@ import { LONG, URL, asked, stage, until } from './cluster';
 import type { Stage } from './cluster';
 import { Database, configOf } from '../database';
 import { Hearing } from '../hearing';
-import { Postgres } from '../postgres';
+import { Beats, Postgres } from '../postgres';
 import { Proxy } from './proxy';
 import { STATEMENTS } from '../statements';
 import { Lost } from '../tables';
@@ -165,6 +165,25 @@ byProxy('a lease that ends while its connection is made leaves none', async (pro
   assert.deepEqual([proxy.made, kept], [1, 0]);
 });
 
+test('a thread of beats that ends by itself is begun again', { timeout: LONG }, async () => {
+  const lines: string[] = [];
+  const log = new Log({ write: (line) => lines.push(line) });
+  const pulses = [new Int32Array(0), new Int32Array(new SharedArrayBuffer(4))]; // a thread can't read the first
+  let kept = 0;
+  const beats = new Beats({
+    url: URL,
+    worker: 'nobody-0123456789ac',
+    lease: LONG,
+    stuck: 0,
+    get pulse() {
+      return pulses.shift() ?? assert.fail('a third thread was begun');
+    },
+  }, () => (kept += 1), log);
+  await until(() => kept === 1);
+  await beats.end();
+  assert.match(lines[0] ?? '', /the thread of beats has ended, and another one begins: .*atomic access index/);
+});
+
 byProxy('a worker whose database doesn\'t reply ends after stop, and leaves no connection', async (proxy) => {
   const on = await stage([work], { url: proxy.url, grace: 100, poll: 50 });
   await on.client.close();
@@ -272,6 +291,23 @@ byProxy('who waits for a connection gets one, also if those of others end with t
     const one = db.transact(async (to) => (await to.rows('now', {})).length);
     const other = db.transact(async (to) => (await to.rows('now', {})).length);
     assert.deepEqual([await one, await other], [1, 1]);
+  } finally {
+    await db.close();
+  }
+});
+
+byProxy('connections that end while nobody uses them lose nothing', async (proxy) => {
+  const db = await Database.open(proxy.url, 2, SILENT);
+  const counts = async (): Promise<number> => db.transact(async (to) => (await to.rows('now', {})).length);
+  const lost: Lost[] = [];
+  db.onLost = (it) => lost.push(it);
+  try {
+    assert.deepEqual(await Promise.all([counts(), counts()]), [1, 1]);
+    proxy.cut();
+    await until(() => proxy.open === 0);
+    await after(50); // until node-pg has heard of it
+    assert.deepEqual(await Promise.all([counts(), counts()]), [1, 1]);
+    assert.deepEqual([proxy.made, lost], [4, []]);
   } finally {
     await db.close();
   }

@@ -29,11 +29,11 @@ use std::fmt;
 use std::mem::forget;
 use std::time::Duration;
 use vm_asks::{Ask, Command, StateRead, asks};
-use vm_awaits::{Awaited, await_tree, drop_cancel, finish_run, flatten, is_completed, take};
-use vm_inputs::{
-    close_input, command_before, end, make_read, read_ephemeral, read_input, ready_ephemeral,
-    report, signal, take_ephemeral,
+use vm_awaits::{
+    Awaited, await_tree, drop_cancel, finish_run, flatten, is_completed, read_ephemeral,
+    ready_ephemeral, signal, take, take_ephemeral,
 };
+use vm_inputs::{close_input, command_before, end, make_read, read_input, report};
 use vm_machine::Machine;
 use vm_retries::RetryPolicy;
 use vm_state::{StateKey, TrackedCall};

@@ -11,8 +11,8 @@ use journal_protocol::{Error, NamedFault};
 use plain::Text;
 use std::alloc::Global;
 use vm_asks::asks::{call_handles, deadline_handles, send_handle};
-use vm_awaits::Awaited;
-use vm_inputs::{awakeable, skips_replay};
+use vm_awaits::{Awaited, awakeable};
+use vm_inputs::skips_replay;
 use vm_machine::{Fault, Machine, refuse};
 use vm_types::{
     AwaitResponse, AwakeableHandle, CallHandle, DeadlineCallHandle, RunHandle, SendHandle, VMResult,

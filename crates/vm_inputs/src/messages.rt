@@ -1,16 +1,17 @@
 //! Messages that come in: Start, the recorded commands, notifications, the results of ephemeral reads, and the closing of the input.
 ghost use Rattle.std.specs.Prelude.{◌≡◌, find, Some, None, IfOk, OnErr, true};
 ghost use Rattle.vm_runs.specs.Kept.{is_for};
-ghost use Rattle.vm_machine.specs.Ephemerals.{ephemeral_notification_step};
+ghost use Rattle.vm_machine.specs.Ephemerals.{ephemeral_notification_step, found_of, result_comes};
 ghost use Rattle.vm_machine.specs.Outcomes.{Gives};
 ghost use Rattle.vm_machine.specs.Phases.{is_waiting};
 ghost use Rattle.vm_machine.specs.Inputs.{start_received, entries_in, coverage_of, counted_entry, start_step, acknowledged, acknowledgement_step, entry_step, notification_step, message_step, malformed_step, close_step};
 ghost use Rattle.vm_parts.specs.Starts.{from_version, start_info_of};
 
-use crate::ephemeral::complete_ephemeral;
 use bytes::Bytes;
 use journal_entries::completion_result;
-use journal_protocol::{NamedFault, Notification, NotificationId, RawMessage, Start, Version};
+use journal_protocol::{
+    NamedFault, Notification, NotificationId, RawMessage, Start, Version, VoidOrValue,
+};
 use plain::{Items, Text};
 use std::alloc::{AllocError, Global};
 use vm_machine::{Fault, Machine, Phase, refuse};
@@ -214,6 +215,33 @@ fn receive_acknowledgement(machine: &mut Machine, raw: &RawMessage) -> Result<()
         Err(plain::Fault::Memory) => Err(Fault::Memory),
         Err(plain::Fault::Malformed) => Err(refuse(NamedFault::BadMessage)),
     }
+}
+
+/// What stands under a key, as a value or none.
+fn found_of(stored: VoidOrValue) -> Option<Bytes>
+    ensures { result ≡ found_of stored }
+{
+    match stored {
+        VoidOrValue::Void => None,
+        VoidOrValue::Value(bytes) => Some(bytes),
+    }
+}
+
+/// The result of a read comes; there has to be one, even if no such read waits for it.
+pub fn complete_ephemeral(
+    machine: &mut Machine,
+    id: u32,
+    found: Option<VoidOrValue>,
+) -> Result<(), Fault>
+    ensures step { Gives (result_comes id found machine.old) result machine.old machine.new }
+    ensures quiet { machine.new.output ≡ machine.old.output }
+    ensures failure { machine.new.failure ≡ machine.old.failure }
+{
+    let Some(stored) = found else {
+        return Err(refuse(NamedFault::EmptyGetStateEphemeralNotification));
+    };
+    machine.ephemeral.complete(id, found_of(stored))?;
+    Ok(())
 }
 
 fn receive_ephemeral_notification(machine: &mut Machine, raw: &RawMessage) -> Result<(), Fault>

@@ -21,13 +21,21 @@ class Waiting(unittest.TestCase):
         said = threading.Timer(0.2, lambda: self.log.write_text(f"{KEPT}\nrt: high proved\n"))
         begun = time.monotonic()
         said.start()
-        self.assertEqual(wait_for(["low", "high"], self.log, 0.01), [])
+        self.assertEqual(wait_for(["low", "high"], [self.log], 0.01), [])
         self.assertGreater(time.monotonic() - begun, 0.1)
         said.join()
 
     def test_it_ends_with_the_run_that_it_waits_for(self) -> None:
         self.log.write_text(f"{KEPT}\nrt: high NOT PROVED\n1 passed, 1 failed\n")
-        self.assertEqual(wait_for(["low", "high"], self.log, 0.01), ["high"])
+        self.assertEqual(wait_for(["low", "high"], [self.log], 0.01), ["high"])
+
+    def test_it_looks_at_several_runs_and_ends_with_the_last(self) -> None:
+        other = self.room / "other"
+        self.log.write_text("rt: low proved\n1 passed, 0 failed\n")
+        ends = threading.Timer(0.2, lambda: other.write_text("rt: high proved\n2 passed, 1 failed\n"))
+        ends.start()
+        self.assertEqual(wait_for(["low", "high", "highest"], [self.log, other], 0.01), ["highest"])
+        ends.join()
 
 
 if __name__ == "__main__":

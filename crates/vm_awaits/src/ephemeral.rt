@@ -3,11 +3,11 @@ ghost use Rattle.std.specs.Prelude.{◌≡◌, ◌∷◌, ◌++◌, [], IfNone, 
 ghost use Rattle.journal_protocol.specs.Frames.{encoding};
 ghost use Rattle.journal_protocol.specs.Message.TheVariants as message;
 ghost use Rattle.vm_parts.specs.Ephemerals.{with_in_flight};
-ghost use Rattle.vm_machine.specs.Ephemerals.{answers_ready, asking_fault, ephemeral_step, found_of, may_answer, read_known, result_comes, take_ephemeral_step, value_found};
+ghost use Rattle.vm_machine.specs.Ephemerals.{answers_ready, asking_fault, ephemeral_step, may_answer, read_known, take_ephemeral_step, value_found};
 ghost use Rattle.vm_machine.specs.Outcomes.{Gives, lasting};
 
 use bytes::Bytes;
-use journal_protocol::{GetStateEphemeralCommand, Message, NamedFault, Version, VoidOrValue};
+use journal_protocol::{GetStateEphemeralCommand, Message, NamedFault, Version};
 use plain::{Text, copy_of};
 use std::alloc::AllocError;
 use vm_machine::{Fault, Machine, refuse};
@@ -31,16 +31,6 @@ fn value_found(found: Option<Bytes>) -> Value
     match found {
         Some(bytes) => Value::Success(bytes),
         None => Value::Void,
-    }
-}
-
-/// What stands under a key, as a value or none.
-fn found_of(stored: VoidOrValue) -> Option<Bytes>
-    ensures { result ≡ found_of stored }
-{
-    match stored {
-        VoidOrValue::Void => None,
-        VoidOrValue::Value(bytes) => Some(bytes),
     }
 }
 
@@ -119,23 +109,6 @@ pub fn take_ephemeral(
         Some(found) => Ok(Some(value_found(found))),
         None => Ok(None),
     }
-}
-
-/// The result of a read comes; there has to be one, even if no such read waits for it.
-pub fn complete_ephemeral(
-    machine: &mut Machine,
-    id: u32,
-    found: Option<VoidOrValue>,
-) -> Result<(), Fault>
-    ensures step { Gives (result_comes id found machine.old) result machine.old machine.new }
-    ensures quiet { machine.new.output ≡ machine.old.output }
-    ensures failure { machine.new.failure ≡ machine.old.failure }
-{
-    let Some(stored) = found else {
-        return Err(refuse(NamedFault::EmptyGetStateEphemeralNotification));
-    };
-    machine.ephemeral.complete(id, found_of(stored))?;
-    Ok(())
 }
 
 /// The read that an await answers before all else: one whose value is there.
