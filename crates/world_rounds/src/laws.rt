@@ -171,8 +171,8 @@ pub fn finished_stays_finished()
         × (commands_in (journal_entries new) ≡ commands_in (journal_entries old)) }
 {}
 
-/// A run whose result is stored is never executed again: one that a round's attempt hands out to be executed is pending, and the
-/// journal with which the round began has no result for its id. (That no attempt hands a run out twice is a law of attempts.)
+/// A round executes no run whose result was in the journal when the round began: a run that the attempt hands out is pending, and
+/// that journal has no result for its id. (That no attempt hands a run out twice is a law of attempts.)
 pub fn finished_runs_are_not_executed()
     ensures { (m : Meaning) (w : Setting) (round : Round) (old : List (List ℕ))
         (handle : NotificationHandle) → IsJournal old

@@ -1,6 +1,7 @@
 """The two databases: migrations, errors, groups of operations, and workers that hear of each other."""
 
 import asyncio
+import contextlib
 import struct
 import time
 import unittest
@@ -113,6 +114,12 @@ class Files(support.InAFolder, unittest.TestCase):
         Plain(str(self.folder / "db")).close()
         first.close()
         worker(str(self.folder / "db")).close()
+
+    def test_workers_in_memory_have_nothing_in_common(self):
+        with contextlib.chdir(self.folder):
+            for it in (worker(":memory:"), worker(":memory:")):
+                it.close()
+        self.assertEqual(list(self.folder.iterdir()), [])
 
     def test_a_file_that_is_no_database(self):
         (self.folder / "db").write_bytes(b"no database" * 1000)

@@ -359,6 +359,8 @@ class Guards(support.OnADatabase, unittest.TestCase):
         for host in ("0.0.0.0", "::", "10.0.0.1"):
             with self.assertRaisesRegex(Unguarded, "set PALQYTUN_TOKEN, or listen on 127.0.0.1"):
                 Http(None, Settings(), host, 0)
+            with self.assertRaisesRegex(Unguarded, "a token needs at least 16 characters, and PALQYTUN_TOKEN has 15"):
+                Http(None, Settings(token="0123456789abcde"), host, 0)
         with self.assertRaisesRegex(ValueError, "is no origin"):
             Http(None, Settings(origins=("ops.example",)), "127.0.0.1", 0)
 

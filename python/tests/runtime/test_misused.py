@@ -133,6 +133,20 @@ class Registered(unittest.TestCase):
         made = Service("Shop").handler(retry=Retry(attempts=5), queue=Queue("mail", concurrency=1), timeout=1.5)(order)
         self.assertEqual((made.retry.attempts, made.queue.name, made.timeout), (5, "mail", 1.5))
 
+    def test_a_workflow_has_one_main(self):
+        async def first(ctx, argument): ...
+        async def second(ctx, argument): ...
+
+        visa = Workflow("Visa")
+        visa.handler()(first)
+        wants = "a workflow has one main, as @visa.main(), which is registered before the app is made; Visa"
+        self.refused(ValueError, f"{wants} has none", lambda: App(visa))
+        visa = Workflow("Visa")
+        visa.main()(first)
+        App(visa)
+        visa.main()(second)
+        self.refused(ValueError, f"{wants} has first and second", lambda: App(visa))
+
     def test_names(self):
         for name in ("", "a/b", "-", None):
             self.refused(ValueError, f"a service has a name without /, as Service('Shop'), and {name!r} is none", lambda it=name: Service(it))

@@ -287,6 +287,13 @@ class Workflow(VirtualObject):
         return self._add(True, bare, **options)
 
 
+def _check_main(it: Workflow) -> None:
+    mains = [handler.name for handler in it.handlers.values() if handler.exclusive]
+    if len(mains) != 1:
+        found = f"has {' and '.join(mains)}" if mains else "has none"
+        raise ValueError(f"a workflow has one main, as @{it.name.lower()}.main(), which is registered before the app is made; {it.name} {found}")
+
+
 def named(target: Handler[Any, Any] | str) -> tuple[str, str]:
     """The service and the name of what is called. `TerminalError` with code 400 for what is no handler, and no "Service/handler"."""
     if isinstance(target, Handler):
@@ -308,6 +315,8 @@ class App:
                 raise TypeError(f"an app has services, objects and workflows, as App(Service('Shop')), and not {it!r}")
             if it.name in self.services:
                 raise ValueError(f"there are two services with the name {it.name}")
+            if isinstance(it, Workflow):
+                _check_main(it)
             self.services[it.name] = it
         self.queues = self._queues()
         self.codec: Codec = JsonCodec() if codec is None else codec

@@ -17,17 +17,25 @@ from .ingress import Ingress, Settings
 from .process import warn_of_unproved
 from .server import CONNECTIONS, Config, Server, address_of, listening
 from .tls import Certificate
+from .tokens import SHORTEST
 
 
 class Unguarded(ValueError):
-    """Others could reach the ingress, and nothing would ask who they are."""
+    """Others could reach the ingress, and nothing, or a token that is guessed soon, would ask who they are."""
+
+
+def _check_guarded(host: str, settings: Settings) -> None:
+    if settings.token is None and settings.tokens is None:
+        raise Unguarded(f"{host} is reached by other hosts, so the ingress needs a token: set PALQYTUN_TOKEN, or listen on 127.0.0.1")
+    if settings.token is not None and len(settings.token) < SHORTEST:
+        raise Unguarded(f"{host} is reached by other hosts, so a token needs at least {SHORTEST} characters, and PALQYTUN_TOKEN has {len(settings.token)}")
 
 
 class Http:
     """The ingress of a worker on an address. It listens from the beginning, and serves requests from `start` to `stop`.
 
     With a `certificate` it speaks TLS alone. Raises `Taken` if nothing can listen there, and `Unguarded` if other hosts could call handlers without a
-    token."""
+    token, or by one that is short."""
 
     def __init__(
         self,
@@ -40,8 +48,8 @@ class Http:
         grace: float = 10.0,
         certificate: Certificate | None = None,
     ):
-        if settings.token is None and settings.tokens is None and not is_loopback(host):
-            raise Unguarded(f"{host} is reached by other hosts, so the ingress needs a token: set PALQYTUN_TOKEN, or listen on 127.0.0.1")
+        if not is_loopback(host):
+            _check_guarded(host, settings)
         self._ingress, self._grace = Ingress(engine, settings), grace
         self._socket, self._scheme = listening(host, port), "http" if certificate is None else "https"
         self._server = Server(Config(self._ingress.app, connections=connections, patience=settings.patience, certificate=certificate))

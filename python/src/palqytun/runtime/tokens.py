@@ -17,7 +17,7 @@ from dataclasses import dataclass
 COOKIE = "palqytun"
 CALL, READ, OPERATE = "call", "read", "operate"
 ROLES = (CALL, READ, OPERATE)
-_SHORTEST = 16  # characters of a token in the file
+SHORTEST = 16  # characters of a token in the file, and of one that other hosts may guess at
 log = logging.getLogger("palqytun")
 
 
@@ -65,8 +65,8 @@ def parsed(text: str, path: str) -> tuple[Token, ...]:
         roles = frozenset(words[1].split(","))
         if not roles <= set(ROLES):
             raise BadTokens(f"{at}: {words[1][:40]!r} are no roles, which are {', '.join(ROLES)}")
-        if len(words[2]) < _SHORTEST:
-            raise BadTokens(f"{at}: the token of {words[0][:40]} has {len(words[2])} characters, and at least {_SHORTEST} are needed")
+        if len(words[2]) < SHORTEST:
+            raise BadTokens(f"{at}: the token of {words[0][:40]} has {len(words[2])} characters, and at least {SHORTEST} are needed")
         found.append(Token(words[0], roles, words[2]))
     if not found:
         raise BadTokens(f"{path} has no token, and nobody could ask anything")

@@ -18,6 +18,7 @@ from . import Asked, Beats, Claiming, Conflict, Each, Full, Lost, Reading, State
 from .schema import VERSIONS, failed, missing
 
 _READ = 1000  # rows that are read in one step
+_IN_MEMORY = ":memory:"  # a database that no other connection can have
 _QUICK = 0.001  # seconds; a commit that takes less isn't worth a thread
 _OPENING = 10.0  # seconds that another program's lock is waited for when a file is opened
 _BUSY = (sqlite3.SQLITE_BUSY, sqlite3.SQLITE_LOCKED)
@@ -104,7 +105,7 @@ class SQLite:
             raise ValueError(f"synchronous is FULL, NORMAL or OFF, and not {synchronous}")
         self._thread = concurrent.futures.ThreadPoolExecutor(1, thread_name_prefix="palqytun-database")
         self._lasted: collections.deque[float] = collections.deque([0.0], maxlen=5)  # how long the last commits took
-        self._lock = _only_worker(path) if worker else None
+        self._lock = _only_worker(path) if worker and path != _IN_MEMORY else None
         try:
             with _named:
                 self._connection = sqlite3.connect(path, isolation_level=None, timeout=_OPENING, cached_statements=500, check_same_thread=False)
