@@ -176,7 +176,9 @@ test('a thread of beats that ends by itself is begun again', { timeout: LONG }, 
     lease: LONG,
     stuck: 0,
     get pulse() {
-      return pulses.shift() ?? assert.fail('a third thread was begun');
+      const next = pulses.shift();
+      assert(next !== undefined, 'a third thread was begun');
+      return next;
     },
   }, () => (kept += 1), log);
   await until(() => kept === 1);

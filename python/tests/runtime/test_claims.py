@@ -306,10 +306,10 @@ class Timers(OnOne):
                     return submit(committer, operation, *more, **named)
 
                 with mock.patch.object(Committer, "submit", submitted):
-                    self.assertIsNone(await runtime.call("Claims/sleeps", 0))
+                    while not left:  # on a busy host a timer may fire after its attempt is suspended, or before the worker looks at it
+                        self.assertIsNone(await runtime.call("Claims/sleeps", 0))
 
         asyncio.run(asyncio.wait_for(go(), support.LONG))
-        self.assertTrue(left)
 
 
 @support.on_each_database
