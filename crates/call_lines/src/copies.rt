@@ -1,10 +1,11 @@
 //! A copy of a step, so that a plan's step can be made as often as attempts come to it.
 ghost use Rattle.std.specs.Prelude.{◌≡◌, IfOk};
 
+use bytes::Bytes;
 use journal_protocol::{IdempotencyId, InvocationTarget, WorkflowId};
-use plain::copy_of;
+use plain::{Text, copy_of};
 use std::alloc::{AllocError, Global};
-use vm_types::{Boxed, Step, Target};
+use vm_types::{Boxed, NonEmptyValue, Step, Target};
 
 fn target_copy(alloc: Global, target: &Target) -> Result<Boxed<Target>, AllocError>
     ensures { IfOk result (λ copy. copy ≡ target.now) }
@@ -59,6 +60,33 @@ fn invocation_copy(
     Ok(Boxed::new(alloc, copy)?)
 }
 
+/// Copies of a key, and of the name of the entry with it.
+fn named_copy(key: &Text, name: &Option<Text>) -> Result<(Text, Option<Text>), AllocError>
+    ensures { IfOk result (λ copy. copy ≡ (key.now, name.now)) }
+{
+    Ok((key.clone()?, copy_of(name)?))
+}
+
+/// Copies of a value, and of the key, the name or the id that it is for.
+fn value_copy(key: &Text, value: &NonEmptyValue) -> Result<(Text, NonEmptyValue), AllocError>
+    ensures { IfOk result (λ copy. copy ≡ (key.now, value.now)) }
+{
+    Ok((key.clone()?, value.clone()?))
+}
+
+/// Copies of what each call and send has: its target, its input and its name.
+fn called_copy(
+    alloc: Global,
+    target: &Boxed<Target>,
+    input: &Bytes,
+    name: &Option<Text>,
+) -> Result<(Boxed<Target>, Bytes, Option<Text>), AllocError>
+    ensures { IfOk result (λ copy. copy ≡ (target.now, input.now, name.now)) }
+{
+    let target = target_copy(alloc, target.as_ref())?;
+    Ok((target, input.clone()?, copy_of(name)?))
+}
+
 /// A copy of a step.
 pub fn copy_of_step(alloc: Global, step: &Step) -> Result<Step, AllocError>
     ensures { IfOk result (λ copy. copy ≡ step.now) }
@@ -78,24 +106,27 @@ pub fn copy_of_step(alloc: Global, step: &Step) -> Result<Step, AllocError>
             value,
             name,
             options,
-        } => Ok(Step::StateSet {
-            key: key.clone()?,
-            value: value.clone()?,
-            name: copy_of(name)?,
-            options: *options,
-        }),
-        Step::StateClear { key, name } => Ok(Step::StateClear {
-            key: key.clone()?,
-            name: copy_of(name)?,
-        }),
+        } => {
+            let (key, name) = named_copy(key, name)?;
+            Ok(Step::StateSet {
+                key,
+                value: value.clone()?,
+                name,
+                options: *options,
+            })
+        }
+        Step::StateClear { key, name } => {
+            let (key, name) = named_copy(key, name)?;
+            Ok(Step::StateClear { key, name })
+        }
         Step::StateClearAll { name } => Ok(Step::StateClearAll {
             name: copy_of(name)?,
         }),
-        Step::StateGet { key, name, options } => Ok(Step::StateGet {
-            key: key.clone()?,
-            name: copy_of(name)?,
-            options: *options,
-        }),
+        Step::StateGet { key, name, options } => {
+            let (key, name) = named_copy(key, name)?;
+            let options = *options;
+            Ok(Step::StateGet { key, name, options })
+        }
         Step::StateGetKeys { name } => Ok(Step::StateGetKeys {
             name: copy_of(name)?,
         }),
@@ -104,56 +135,68 @@ pub fn copy_of_step(alloc: Global, step: &Step) -> Result<Step, AllocError>
             input,
             name,
             options,
-        } => Ok(Step::Call {
-            target: target_copy(alloc, target.as_ref())?,
-            input: input.clone()?,
-            name: copy_of(name)?,
-            options: *options,
-        }),
+        } => {
+            let (target, input, name) = called_copy(alloc, target, input, name)?;
+            Ok(Step::Call {
+                target,
+                input,
+                name,
+                options: *options,
+            })
+        }
         Step::CallWithDeadline {
             target,
             input,
             wake_up_time_since_unix_epoch,
             name,
             options,
-        } => Ok(Step::CallWithDeadline {
-            target: target_copy(alloc, target.as_ref())?,
-            input: input.clone()?,
-            wake_up_time_since_unix_epoch: *wake_up_time_since_unix_epoch,
-            name: copy_of(name)?,
-            options: *options,
-        }),
+        } => {
+            let (target, input, name) = called_copy(alloc, target, input, name)?;
+            Ok(Step::CallWithDeadline {
+                target,
+                input,
+                wake_up_time_since_unix_epoch: *wake_up_time_since_unix_epoch,
+                name,
+                options: *options,
+            })
+        }
         Step::Send {
             target,
             input,
             execution_time_since_unix_epoch,
             name,
             options,
-        } => Ok(Step::Send {
-            target: target_copy(alloc, target.as_ref())?,
-            input: input.clone()?,
-            execution_time_since_unix_epoch: *execution_time_since_unix_epoch,
-            name: copy_of(name)?,
-            options: *options,
-        }),
+        } => {
+            let (target, input, name) = called_copy(alloc, target, input, name)?;
+            Ok(Step::Send {
+                target,
+                input,
+                execution_time_since_unix_epoch: *execution_time_since_unix_epoch,
+                name,
+                options: *options,
+            })
+        }
         Step::Awakeable => Ok(Step::Awakeable),
         Step::Signal { name } => Ok(Step::Signal {
             name: name.clone()?,
         }),
-        Step::CompleteAwakeable { id, value, options } => Ok(Step::CompleteAwakeable {
-            id: id.clone()?,
-            value: value.clone()?,
-            options: *options,
-        }),
+        Step::CompleteAwakeable { id, value, options } => {
+            let (id, value) = value_copy(id, value)?;
+            let options = *options;
+            Ok(Step::CompleteAwakeable { id, value, options })
+        }
         Step::CompleteSignal {
             target_invocation_id,
             signal_name,
             value,
-        } => Ok(Step::CompleteSignal {
-            target_invocation_id: target_invocation_id.clone()?,
-            signal_name: signal_name.clone()?,
-            value: value.clone()?,
-        }),
+        } => {
+            let (signal_name, value) = value_copy(signal_name, value)?;
+            Ok(Step::CompleteSignal {
+                target_invocation_id: target_invocation_id.clone()?,
+                signal_name,
+                value,
+            })
+        }
         Step::CancelInvocation {
             target_invocation_id,
         } => Ok(Step::CancelInvocation {
@@ -165,11 +208,15 @@ pub fn copy_of_step(alloc: Global, step: &Step) -> Result<Step, AllocError>
             key,
             value,
             options,
-        } => Ok(Step::CompletePromise {
-            key: key.clone()?,
-            value: value.clone()?,
-            options: *options,
-        }),
+        } => {
+            let (key, value) = value_copy(key, value)?;
+            let options = *options;
+            Ok(Step::CompletePromise {
+                key,
+                value,
+                options,
+            })
+        }
         Step::Run { name } => Ok(Step::Run {
             name: name.clone()?,
         }),

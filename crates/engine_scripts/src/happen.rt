@@ -76,13 +76,21 @@ fn submit(engine: &mut Engine<Plan>, asked: Asked) -> Result<Did, EngineFault>
     }
 }
 
+/// One event of the engine, which is dropped here alone.
+fn happen(engine: &mut Engine<Plan>, event: Happening) -> Result<(), EngineFault>
+    ensures does { OnOk result (HappensOnce event engine.old engine.new) }
+    ensures err { IfErr result IsNoArrival }
+{
+    engine.happen(&event)
+}
+
 /// An attempt begins.
 fn begin(engine: &mut Engine<Plan>, place: usize) -> Result<Did, EngineFault>
     ensures does { OnOk result (HappensOnce (happening.Begin place) engine.old engine.new) }
     ensures err { IfErr result IsNoArrival }
 {
     let may = engine.may_begin(place);
-    engine.happen(&Happening::Begin(place))?;
+    happen(engine, Happening::Begin(place))?;
     Ok(something_if(may))
 }
 
@@ -92,7 +100,7 @@ fn act(engine: &mut Engine<Plan>, place: usize, event: AttemptEvent) -> Result<D
     ensures err { IfErr result IsNoArrival }
 {
     let lives = is_live(engine, place);
-    engine.happen(&Happening::Act(place, event))?;
+    happen(engine, Happening::Act(place, event))?;
     Ok(something_if(lives))
 }
 
@@ -126,7 +134,7 @@ fn deliver(engine: &mut Engine<Plan>, place: usize, at: usize) -> Result<Did, En
     ensures err { IfErr result IsNoArrival }
 {
     let before = inbox_len(engine, place);
-    engine.happen(&Happening::Deliver(place, at))?;
+    happen(engine, Happening::Deliver(place, at))?;
     Ok(something_if(inbox_len(engine, place) < before))
 }
 
@@ -163,7 +171,7 @@ fn store_next(engine: &mut Engine<Plan>, place: usize) -> Result<Did, EngineFaul
     ensures err { IfErr result IsNoArrival }
 {
     let before = journal_len(engine, place);
-    engine.happen(&Happening::Store(place))?;
+    happen(engine, Happening::Store(place))?;
     Ok(something_if(journal_len(engine, place) > before))
 }
 
@@ -192,7 +200,7 @@ fn stop(engine: &mut Engine<Plan>, place: usize) -> Result<Did, EngineFault>
     ensures err { IfErr result IsNoArrival }
 {
     let lives = is_live(engine, place);
-    engine.happen(&Happening::Stop(place))?;
+    happen(engine, Happening::Stop(place))?;
     Ok(something_if(lives))
 }
 
@@ -202,7 +210,7 @@ fn crash(engine: &mut Engine<Plan>) -> Result<Did, EngineFault>
     ensures err { IfErr result IsNoArrival }
 {
     let live = any_live(engine);
-    engine.happen(&Happening::StopAll)?;
+    happen(engine, Happening::StopAll)?;
     Ok(something_if(live))
 }
 
@@ -212,7 +220,7 @@ fn clock(engine: &mut Engine<Plan>, time: u64) -> Result<Did, EngineFault>
     ensures err { IfErr result IsNoArrival }
 {
     let before = engine.clock;
-    engine.happen(&Happening::Clock(time))?;
+    happen(engine, Happening::Clock(time))?;
     Ok(something_if(engine.clock > before))
 }
 

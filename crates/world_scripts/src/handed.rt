@@ -77,12 +77,31 @@ fn handed_of(
     }
 }
 
-/// The error of a round, if it has one.
-fn error_in(reports: &[Report]) -> Option<&Error> {
-    match reports {
-        [report] => report.error.as_ref(),
-        _ => None,
+/// The error of a round that was played alone, if it has one.
+fn error_of(reports: Vec<Report>) -> Result<Option<Error>, AllocError> {
+    match reports.as_slice() {
+        [report] => report.error.clone(),
+        _ => Ok(None),
     }
+}
+
+/// A round that has this error, and left this journal.
+fn failed_round(
+    alloc: Global,
+    setting: &Setting,
+    round: &Round,
+    number: u64,
+    error: Error,
+    before: Bytes,
+    journal: &[Bytes],
+) -> Result<FailedRound, AllocError> {
+    let after = handed_of(alloc, setting, round, journal)?;
+    Ok(FailedRound {
+        number,
+        error,
+        before,
+        after,
+    })
 }
 
 /// Plays rounds one by one, and adds those that have an error.
@@ -95,27 +114,55 @@ fn add_failed<H: Handler>(
     failed: &mut Vec<FailedRound>,
 ) -> Result<(), AllocError> {
     for at in 0..rounds.len() {
-        let before = handed_of(alloc, setting, &rounds[at], world.journal())?;
-        match play_rounds(handler, world, &rounds[at..at + 1]) {
-            Ok((next, reports)) => {
-                world = next;
-                if let Some(error) = error_in(reports.as_slice()) {
-                    failed.push(FailedRound {
-                        number: at as u64 + 1,
-                        error: error.clone()?,
-                        before,
-                        after: handed_of(alloc, setting, &rounds[at], world.journal())?,
-                    })?;
-                }
-            }
-            Err(_) => return Ok(()),
+        let round = &rounds[at];
+        let before = handed_of(alloc, setting, round, world.journal())?;
+        let Ok((next, reports)) = play_rounds(handler, world, &rounds[at..at + 1]) else {
+            return Ok(());
+        };
+        world = next;
+        if let Some(error) = error_of(reports)? {
+            let number = at as u64 + 1;
+            let journal = world.journal();
+            failed.push(failed_round(alloc, setting, round, number, error, before, journal)?)?;
         }
     }
     Ok(())
 }
 
-/// The options of a script's world, and its rounds that have an error, up to one that is stopped by a fault. A script that isn't read, or makes no
-/// world, has none.
+/// Adds the rounds of a script that have an error, up to one that is stopped by a fault. A script that isn't read, or makes no world, has none.
+fn add_failed_of<H: Handler>(
+    alloc: Global,
+    version: Version,
+    handler: &H,
+    setting: &Setting,
+    text: &[u8],
+    failed: &mut Vec<FailedRound>,
+) -> Result<(), AllocError> {
+    let Ok(
+        Script {
+            given,
+            entries,
+            rounds,
+        },
+    ) = script_of(alloc, text)
+    else {
+        return Ok(());
+    };
+    let Ok(world) = world_of(alloc, version, given, entries) else {
+        return Ok(());
+    };
+    add_failed(alloc, handler, setting, world, rounds.as_slice(), failed)
+}
+
+/// What a script makes attempts with, if it is read.
+fn setting_in(alloc: Global, version: Version, text: &[u8]) -> Result<Option<Setting>, AllocError> {
+    match script_of(alloc, text) {
+        Ok(script) => Ok(Some(setting_of(alloc, version, script.given)?)),
+        Err(_) => Ok(None),
+    }
+}
+
+/// The options of a script's world, and its rounds that have an error. A script that isn't read has the usual options, and no rounds.
 pub fn failed_rounds<H: Handler>(
     alloc: Global,
     version: Version,
@@ -123,24 +170,9 @@ pub fn failed_rounds<H: Handler>(
     text: &[u8],
 ) -> Result<(VMOptions, Vec<FailedRound>), AllocError> {
     let mut failed = Vec::new(alloc);
-    let (Ok(played), Ok(again)) = (script_of(alloc, text), script_of(alloc, text)) else {
+    let Some(setting) = setting_in(alloc, version, text)? else {
         return Ok((VMOptions::default(), failed));
     };
-    let setting = setting_of(alloc, version, again.given)?;
-    let Script {
-        given,
-        entries,
-        rounds,
-    } = played;
-    if let Ok(world) = world_of(alloc, version, given, entries) {
-        add_failed(
-            alloc,
-            handler,
-            &setting,
-            world,
-            rounds.as_slice(),
-            &mut failed,
-        )?;
-    }
+    add_failed_of(alloc, version, handler, &setting, text, &mut failed)?;
     Ok((setting.options, failed))
 }
