@@ -189,6 +189,9 @@ pub fn explained(
 ) -> Result<Option<Line>, AllocError> {
     match &vm.machine.failure {
         Some(error) => explain_failure(alloc, vm, moment, call, error),
-        None => Ok(None),
+        None => {
+            drop(call);
+            Ok(None)
+        }
     }
 }
