@@ -38,7 +38,7 @@ BESIDE_CHAIN = 10  # the priority of what is proved beside the longest chain
 
 @dataclass(frozen=True)
 class Run:
-    """A run of rt ci over some crates and what they stand on. It begins at once, or once another crate is proved."""
+    """A run of rt ci over some crates and what they depend on. It begins at once, or once another crate is proved."""
 
     name: str
     ends: tuple[str, ...]
@@ -103,14 +103,20 @@ def beside(trees: Mapping[str, Path], proofs: Job, after: int | None) -> Iterato
     That of all crates begins last: whoever proves a crate, or was the first to wait for it, begins the next, and this run has one process for each, so it
     would take the chain over. Those of the chain have no RT_JOBS, so a check has two processes while no other of its run waits."""
     for at, it in enumerate(CHAIN):
-        words = once_proved(it.after, CHAIN[:at], proofs.words) if it.after else proofs.words if at == 0 else after_moment(proofs.words)
-        one = replace(proofs, name=it.job, counts=counts.of_status, folder=str(trees[it.job]), words=words, env={"RT_JOBS": ""})
-        yield one if at == 0 else replace(one, cores=0)
+        one = replace(proofs, name=it.job, counts=counts.of_status, folder=str(trees[it.job]), env={"RT_JOBS": ""})
+        yield replace(one, words=piece(at, proofs.words), cores=0 if at else proofs.cores)
     words = with_priority(BESIDE_CHAIN, proofs.words)
     waits = after_moment(words) if after is None else once_ended(after, words)
     low = replace(proofs, name=LOW, counts=counts.of_status, folder=str(trees[LOW]), words=waits, cores=0)
     yield replace(low, env={"RT_JOBS": str(lanes() + 1)})  # one of them waits for the chain
     yield replace(proofs, words=once_proved(BEFORE_ALL, CHAIN, words), cores=0, env={"RT_JOBS": str(lanes())})
+
+
+def piece(at: int, words: tuple[str, ...]) -> tuple[str, ...]:
+    """The command of the piece of the longest chain at a place: the first begins at once, and any other a moment later or once a crate is proved."""
+    if CHAIN[at].after:
+        return once_proved(CHAIN[at].after, CHAIN[:at], words)
+    return after_moment(words) if at else words
 
 
 def after_moment(words: tuple[str, ...]) -> tuple[str, ...]:
