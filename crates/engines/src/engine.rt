@@ -291,7 +291,7 @@ impl<'a, H: Handler + Drop> Engine<'a, H> {
         self.invocations.iter().position(|it| it.has_id(id))
     }
 
-    /// MakesInvocation an invocation of this handler, as the last.
+    /// Makes an invocation of this handler, as the last.
     fn make(
         &mut self,
         target: usize,

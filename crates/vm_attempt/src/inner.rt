@@ -147,6 +147,7 @@ impl<H: Handler> Inner<H> {
             return Err(memory_error());
         };
         let Ok(future) = kept_future(&step) else {
+            drop(step);
             self.starved = true;
             return Err(memory_error());
         };

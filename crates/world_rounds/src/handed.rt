@@ -6,7 +6,7 @@ ghost use Rattle.vm_state.specs.declared.state_map.StateCoverage.TheVariants.{Co
 ghost use Rattle.vm_state.specs.Entries.{entries_of as state_entries};
 ghost use Rattle.journal_entries.specs.Arrivals.{most_entries};
 ghost use Rattle.world_rounds.specs.States.{HaveTextKeys, pairs_for, state_after};
-ghost use Rattle.world_rounds.specs.Worlds.{start_message, start_of};
+ghost use Rattle.world_rounds.specs.Worlds.{start_message};
 
 use crate::types::{Identity, Round, Setting};
 use crate::values::Values;
@@ -50,31 +50,6 @@ fn handed_pairs(
     values.pairs(alloc, round.partial, round.keys.as_slice())
 }
 
-/// The Start of an attempt.
-fn start_with(
-    identity: Identity,
-    state: Items<(Bytes, Bytes)>,
-    round: &Round,
-    known_entries: u32,
-) -> Start
-    ensures { result ≡ start_of identity state round.now known_entries }
-{
-    Start {
-        id: identity.id,
-        debug_id: identity.debug_id,
-        key: identity.key,
-        known_entries,
-        state,
-        partial: round.partial,
-        retry_count: round.retry_count,
-        duration: round.duration,
-        random_seed: identity.random_seed,
-        scope: identity.scope,
-        limit_key: identity.limit_key,
-        idempotency_key: identity.idempotency_key,
-    }
-}
-
 fn copy_identity(identity: &Identity) -> Result<Identity, AllocError>
     ensures { IfOk result (λ copy. copy ≡ identity.now) }
 {
@@ -104,6 +79,6 @@ pub fn start_bytes(
 {
     let pairs = handed_pairs(alloc, setting, round, journal)?;
     let identity = copy_identity(&setting.identity)?;
-    let start = start_with(identity, pairs, round, journal.len() as u32);
+    let start = identity.into_start(pairs, round, journal.len() as u32);
     encode_start(alloc, start)
 }

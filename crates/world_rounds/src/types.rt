@@ -1,14 +1,16 @@
 //! What a world and its rounds are made of, and what rounds tell.
+ghost use Rattle.std.specs.Prelude.{◌≡◌};
+ghost use Rattle.world_rounds.specs.Worlds.{start_of};
 
 use await_trees::NotificationHandle;
 use bytes::Bytes;
-use journal_protocol::{Error, Version};
+use journal_protocol::{Error, Start, Version};
 use plain::{Items, Text};
 use vm_retries::RetryPolicy;
 use vm_types::{Answer, RunExitResult, VMOptions};
 
 /// What stays the same over all attempts of an invocation.
-#[derive(Debug, Drop, Clone)]
+#[derive(Debug, Clone)]
 pub struct Identity {
     pub id: Bytes,
     pub debug_id: Text,
@@ -17,6 +19,63 @@ pub struct Identity {
     pub scope: Option<Text>,
     pub limit_key: Option<Text>,
     pub idempotency_key: Option<Text>,
+}
+
+impl Identity {
+    /// The Start of an attempt.
+    pub(crate) fn into_start(
+        self,
+        state: Items<(Bytes, Bytes)>,
+        round: &Round,
+        known_entries: u32,
+    ) -> Start
+        ensures { result ≡ start_of self state round.now known_entries }
+    {
+        let Self {
+            id,
+            debug_id,
+            key,
+            random_seed,
+            scope,
+            limit_key,
+            idempotency_key,
+        } = self;
+        Start {
+            id,
+            debug_id,
+            key,
+            known_entries,
+            state,
+            partial: round.partial,
+            retry_count: round.retry_count,
+            duration: round.duration,
+            random_seed,
+            scope,
+            limit_key,
+            idempotency_key,
+        }
+    }
+}
+
+/// Written out, so that dropping an identity calls this: a derived drop is taken apart at each way out of a function.
+impl Drop for Identity {
+    fn drop(self) {
+        let Self {
+            id,
+            debug_id,
+            key,
+            random_seed: _,
+            scope,
+            limit_key,
+            idempotency_key,
+        } = self;
+        drop(id);
+        drop(debug_id);
+        drop(key);
+        drop(scope);
+        drop(limit_key);
+        drop(idempotency_key);
+    }
 }
 
 /// What all attempts of a world are made with.
@@ -28,7 +87,7 @@ pub struct Setting {
     pub base: Items<(Text, Bytes)>,
 }
 
-/// Written out, so that who lets a world go calls this: a derived drop is taken apart at each way out of a function.
+/// Written out, as the drop of an identity is.
 impl Drop for Setting {
     fn drop(self) {
         let Self {

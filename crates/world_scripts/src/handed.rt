@@ -130,7 +130,7 @@ fn add_failed<H: Handler>(
 }
 
 /// Adds the rounds of a script that have an error, up to one that is stopped by a fault. A script that isn't read, or makes no world, has none.
-fn add_failed_of<H: Handler>(
+fn add_failed_of_script<H: Handler>(
     alloc: Global,
     version: Version,
     handler: &H,
@@ -173,6 +173,6 @@ pub fn failed_rounds<H: Handler>(
     let Some(setting) = setting_in(alloc, version, text)? else {
         return Ok((VMOptions::default(), failed));
     };
-    add_failed_of(alloc, version, handler, &setting, text, &mut failed)?;
+    add_failed_of_script(alloc, version, handler, &setting, text, &mut failed)?;
     Ok((setting.options, failed))
 }
