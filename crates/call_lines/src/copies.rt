@@ -3,44 +3,65 @@ ghost use Rattle.std.specs.Prelude.{◌≡◌, IfOk};
 
 use bytes::Bytes;
 use journal_protocol::{IdempotencyId, InvocationTarget, WorkflowId};
-use plain::{Text, copy_of};
+use plain::{Plain, Text, copy_of};
 use std::alloc::{AllocError, Global};
 use vm_types::{Boxed, NonEmptyValue, Step, Target};
+
+/// The step, or another value, that is made of a copy, if there was memory for it.
+macro_rules! with_copy {
+    ($copy:expr, $parts:pat => $made:expr) => {
+        match $copy {
+            Ok($parts) => Ok($made),
+            Err(error) => Err(error),
+        }
+    };
+}
+
+/// Copies of two values.
+fn both_copies<A: Plain + Drop, B: Plain>(a: &A, b: &B) -> Result<(A, B), AllocError>
+    ensures { IfOk result (λ copy. copy ≡ (a.now, b.now)) }
+{
+    let a = copy_of(a)?;
+    with_copy!(copy_of(b), b => (a, b))
+}
 
 fn target_copy(alloc: Global, target: &Target) -> Result<Boxed<Target>, AllocError>
     ensures { IfOk result (λ copy. copy ≡ target.now) }
 {
+    let (service, handler) = both_copies(&target.service, &target.handler)?;
+    let (key, idempotency_key) = both_copies(&target.key, &target.idempotency_key)?;
+    let (scope, limit_key) = both_copies(&target.scope, &target.limit_key)?;
+    let headers = target.headers.clone()?;
     let copy = Target {
-        service: target.service.clone()?,
-        handler: target.handler.clone()?,
-        key: copy_of(&target.key)?,
-        idempotency_key: copy_of(&target.idempotency_key)?,
-        scope: copy_of(&target.scope)?,
-        limit_key: copy_of(&target.limit_key)?,
-        headers: target.headers.clone()?,
+        service,
+        handler,
+        key,
+        idempotency_key,
+        scope,
+        limit_key,
+        headers,
     };
-    Ok(Boxed::new(alloc, copy)?)
+    Boxed::new(alloc, copy)
 }
 
 fn workflow_copy(id: &WorkflowId) -> Result<WorkflowId, AllocError>
     ensures { IfOk result (λ copy. copy ≡ id.now) }
 {
-    Ok(WorkflowId {
-        name: id.name.clone()?,
-        key: id.key.clone()?,
-        scope: copy_of(&id.scope)?,
-    })
+    let (name, key) = both_copies(&id.name, &id.key)?;
+    with_copy!(copy_of(&id.scope), scope => WorkflowId { name, key, scope })
 }
 
 fn idempotency_copy(id: &IdempotencyId) -> Result<IdempotencyId, AllocError>
     ensures { IfOk result (λ copy. copy ≡ id.now) }
 {
-    Ok(IdempotencyId {
-        service_name: id.service_name.clone()?,
-        service_key: copy_of(&id.service_key)?,
-        handler_name: id.handler_name.clone()?,
-        idempotency_key: id.idempotency_key.clone()?,
-        scope: copy_of(&id.scope)?,
+    let (service_name, service_key) = both_copies(&id.service_name, &id.service_key)?;
+    let (handler_name, idempotency_key) = both_copies(&id.handler_name, &id.idempotency_key)?;
+    with_copy!(copy_of(&id.scope), scope => IdempotencyId {
+        service_name,
+        service_key,
+        handler_name,
+        idempotency_key,
+        scope,
     })
 }
 
@@ -57,21 +78,39 @@ fn invocation_copy(
             InvocationTarget::IdempotencyId(idempotency_copy(id)?)
         }
     };
-    Ok(Boxed::new(alloc, copy)?)
-}
-
-/// Copies of a key, and of the name of the entry with it.
-fn named_copy(key: &Text, name: &Option<Text>) -> Result<(Text, Option<Text>), AllocError>
-    ensures { IfOk result (λ copy. copy ≡ (key.now, name.now)) }
-{
-    Ok((key.clone()?, copy_of(name)?))
+    Boxed::new(alloc, copy)
 }
 
 /// Copies of a value, and of the key, the name or the id that it is for.
 fn value_copy(key: &Text, value: &NonEmptyValue) -> Result<(Text, NonEmptyValue), AllocError>
     ensures { IfOk result (λ copy. copy ≡ (key.now, value.now)) }
 {
-    Ok((key.clone()?, value.clone()?))
+    let key = key.clone()?;
+    with_copy!(value.clone(), value => (key, value))
+}
+
+/// Copies of a key, its value and a name.
+fn entry_copy(
+    key: &Text,
+    value: &Bytes,
+    name: &Option<Text>,
+) -> Result<(Text, Bytes, Option<Text>), AllocError>
+    ensures { IfOk result (λ copy. copy ≡ (key.now, value.now, name.now)) }
+{
+    let (key, value) = both_copies(key, value)?;
+    with_copy!(copy_of(name), name => (key, value, name))
+}
+
+/// Copies of an invocation's id, and of a signal's name and value.
+fn signal_copy(
+    target: &Text,
+    name: &Text,
+    value: &NonEmptyValue,
+) -> Result<(Text, Text, NonEmptyValue), AllocError>
+    ensures { IfOk result (λ copy. copy ≡ (target.now, name.now, value.now)) }
+{
+    let (target, name) = both_copies(target, name)?;
+    with_copy!(value.clone(), value => (target, name, value))
 }
 
 /// Copies of what each call and send has: its target, its input and its name.
@@ -83,8 +122,8 @@ fn called_copy(
 ) -> Result<(Boxed<Target>, Bytes, Option<Text>), AllocError>
     ensures { IfOk result (λ copy. copy ≡ (target.now, input.now, name.now)) }
 {
-    let target = target_copy(alloc, target.as_ref())?;
-    Ok((target, input.clone()?, copy_of(name)?))
+    let (input, name) = both_copies(input, name)?;
+    with_copy!(target_copy(alloc, target.as_ref()), target => (target, input, name))
 }
 
 /// A copy of a step.
@@ -96,8 +135,8 @@ pub fn copy_of_step(alloc: Global, step: &Step) -> Result<Step, AllocError>
             name,
             wake_up_time_since_unix_epoch,
             now_since_unix_epoch,
-        } => Ok(Step::Sleep {
-            name: name.clone()?,
+        } => with_copy!(name.clone(), name => Step::Sleep {
+            name,
             wake_up_time_since_unix_epoch: *wake_up_time_since_unix_epoch,
             now_since_unix_epoch: *now_since_unix_epoch,
         }),
@@ -106,128 +145,124 @@ pub fn copy_of_step(alloc: Global, step: &Step) -> Result<Step, AllocError>
             value,
             name,
             options,
-        } => {
-            let (key, name) = named_copy(key, name)?;
-            Ok(Step::StateSet {
+        } => with_copy!(entry_copy(key, value, name), (key, value, name) => Step::StateSet {
+            key,
+            value,
+            name,
+            options: *options,
+        }),
+        Step::StateClear { key, name } => {
+            with_copy!(both_copies(key, name), (key, name) => Step::StateClear { key, name })
+        }
+        Step::StateClearAll { name } => {
+            with_copy!(copy_of(name), name => Step::StateClearAll { name })
+        }
+        Step::StateGet { key, name, options } => {
+            with_copy!(both_copies(key, name), (key, name) => Step::StateGet {
                 key,
-                value: value.clone()?,
                 name,
                 options: *options,
             })
         }
-        Step::StateClear { key, name } => {
-            let (key, name) = named_copy(key, name)?;
-            Ok(Step::StateClear { key, name })
+        Step::StateGetKeys { name } => {
+            with_copy!(copy_of(name), name => Step::StateGetKeys { name })
         }
-        Step::StateClearAll { name } => Ok(Step::StateClearAll {
-            name: copy_of(name)?,
-        }),
-        Step::StateGet { key, name, options } => {
-            let (key, name) = named_copy(key, name)?;
-            let options = *options;
-            Ok(Step::StateGet { key, name, options })
-        }
-        Step::StateGetKeys { name } => Ok(Step::StateGetKeys {
-            name: copy_of(name)?,
-        }),
         Step::Call {
             target,
             input,
             name,
             options,
-        } => {
-            let (target, input, name) = called_copy(alloc, target, input, name)?;
-            Ok(Step::Call {
+        } => with_copy!(
+            called_copy(alloc, target, input, name),
+            (target, input, name) => Step::Call {
                 target,
                 input,
                 name,
                 options: *options,
-            })
-        }
+            }
+        ),
         Step::CallWithDeadline {
             target,
             input,
             wake_up_time_since_unix_epoch,
             name,
             options,
-        } => {
-            let (target, input, name) = called_copy(alloc, target, input, name)?;
-            Ok(Step::CallWithDeadline {
+        } => with_copy!(
+            called_copy(alloc, target, input, name),
+            (target, input, name) => Step::CallWithDeadline {
                 target,
                 input,
                 wake_up_time_since_unix_epoch: *wake_up_time_since_unix_epoch,
                 name,
                 options: *options,
-            })
-        }
+            }
+        ),
         Step::Send {
             target,
             input,
             execution_time_since_unix_epoch,
             name,
             options,
-        } => {
-            let (target, input, name) = called_copy(alloc, target, input, name)?;
-            Ok(Step::Send {
+        } => with_copy!(
+            called_copy(alloc, target, input, name),
+            (target, input, name) => Step::Send {
                 target,
                 input,
                 execution_time_since_unix_epoch: *execution_time_since_unix_epoch,
                 name,
                 options: *options,
-            })
-        }
+            }
+        ),
         Step::Awakeable => Ok(Step::Awakeable),
-        Step::Signal { name } => Ok(Step::Signal {
-            name: name.clone()?,
-        }),
+        Step::Signal { name } => with_copy!(name.clone(), name => Step::Signal { name }),
         Step::CompleteAwakeable { id, value, options } => {
-            let (id, value) = value_copy(id, value)?;
-            let options = *options;
-            Ok(Step::CompleteAwakeable { id, value, options })
+            with_copy!(value_copy(id, value), (id, value) => Step::CompleteAwakeable {
+                id,
+                value,
+                options: *options,
+            })
         }
         Step::CompleteSignal {
             target_invocation_id,
             signal_name,
             value,
-        } => {
-            let (signal_name, value) = value_copy(signal_name, value)?;
-            Ok(Step::CompleteSignal {
-                target_invocation_id: target_invocation_id.clone()?,
+        } => with_copy!(
+            signal_copy(target_invocation_id, signal_name, value),
+            (target_invocation_id, signal_name, value) => Step::CompleteSignal {
+                target_invocation_id,
                 signal_name,
                 value,
-            })
-        }
+            }
+        ),
         Step::CancelInvocation {
+            target_invocation_id: id,
+        } => with_copy!(id.clone(), target_invocation_id => Step::CancelInvocation {
             target_invocation_id,
-        } => Ok(Step::CancelInvocation {
-            target_invocation_id: target_invocation_id.clone()?,
         }),
-        Step::GetPromise { key } => Ok(Step::GetPromise { key: key.clone()? }),
-        Step::PeekPromise { key } => Ok(Step::PeekPromise { key: key.clone()? }),
+        Step::GetPromise { key } => with_copy!(key.clone(), key => Step::GetPromise { key }),
+        Step::PeekPromise { key } => with_copy!(key.clone(), key => Step::PeekPromise { key }),
         Step::CompletePromise {
             key,
             value,
             options,
-        } => {
-            let (key, value) = value_copy(key, value)?;
-            let options = *options;
-            Ok(Step::CompletePromise {
-                key,
-                value,
-                options,
-            })
-        }
-        Step::Run { name } => Ok(Step::Run {
-            name: name.clone()?,
+        } => with_copy!(value_copy(key, value), (key, value) => Step::CompletePromise {
+            key,
+            value,
+            options: *options,
         }),
-        Step::AttachInvocation(target) => {
-            Ok(Step::AttachInvocation(invocation_copy(alloc, target.as_ref())?))
+        Step::Run { name } => with_copy!(name.clone(), name => Step::Run { name }),
+        Step::AttachInvocation(target) => with_copy!(
+            invocation_copy(alloc, target.as_ref()),
+            target => Step::AttachInvocation(target)
+        ),
+        Step::GetInvocationOutput(target) => with_copy!(
+            invocation_copy(alloc, target.as_ref()),
+            target => Step::GetInvocationOutput(target)
+        ),
+        Step::WriteOutput(value, options) => {
+            with_copy!(value.clone(), value => Step::WriteOutput(value, *options))
         }
-        Step::GetInvocationOutput(target) => {
-            Ok(Step::GetInvocationOutput(invocation_copy(alloc, target.as_ref())?))
-        }
-        Step::WriteOutput(value, options) => Ok(Step::WriteOutput(value.clone()?, *options)),
-        Step::Await(future) => Ok(Step::Await(future.clone()?)),
+        Step::Await(future) => with_copy!(future.clone(), future => Step::Await(future)),
         Step::Take(handle) => Ok(Step::Take(*handle)),
         Step::Completed(handle) => Ok(Step::Completed(*handle)),
         Step::End => Ok(Step::End),

@@ -7,15 +7,7 @@ ghost use Rattle.frame_values.specs.Notation.{put_all};
 
 use crate::forms::Form;
 use crate::type_names::name_of;
-use journal_protocol::{
-    AwaitingOn, CallCommand, ClearAllStateCommand, ClearStateCommand, CompleteAwakeableCommand,
-    CompletePromiseCommand, ErrorMessage, GetEagerStateCommand, GetEagerStateKeysCommand,
-    GetLazyStateCommand, GetLazyStateKeysCommand, GetStateEphemeralCommand,
-    GetStateEphemeralNotification, InputCommand, InvocationCommand, Message, MessageType,
-    Notification, OneWayCallCommand, OutputCommand, PromiseCommand, ProposeRunCompletion,
-    ProposeRunCompletionAck, RunCommand, SendSignalCommand, SetStateCommand, SleepCommand, Start,
-    Suspension,
-};
+use journal_protocol::{Message, MessageType};
 use lines::line::Line;
 use plain::Fault;
 use std::alloc::{AllocError, Global};
@@ -69,6 +61,16 @@ pub fn print_message(message: &Message, line: &mut Line) -> Result<(), AllocErro
     Ok(())
 }
 
+/// The message whose body was read.
+macro_rules! as_message {
+    ($body:expr, $message:path) => {
+        match $body {
+            Ok(body) => Ok($message(body)),
+            Err(fault) => Err(fault),
+        }
+    };
+}
+
 /// The message of this type that these words are the fields of.
 #[tactic(auto, unfolding(crate::specs::Messages::AreFieldsOf))]
 pub fn parse_message(alloc: Global, ty: MessageType, words: &[&[u8]]) -> Result<Message, Fault>
@@ -78,72 +80,90 @@ pub fn parse_message(alloc: Global, ty: MessageType, words: &[&[u8]]) -> Result<
         (Blames (λ message. (type_of message ≡ ty) × AreFieldsOf words.now message)) }
 {
     match ty {
-        MessageType::Start => Ok(Message::Start(Start::read(alloc, words)?)),
-        MessageType::Suspension => Ok(Message::Suspension(Suspension::read(alloc, words)?)),
-        MessageType::Error => Ok(Message::Error(ErrorMessage::read(alloc, words)?)),
+        MessageType::Start => as_message!(Form::read(alloc, words), Message::Start),
+        MessageType::Suspension => as_message!(Form::read(alloc, words), Message::Suspension),
+        MessageType::Error => as_message!(Form::read(alloc, words), Message::Error),
         MessageType::End if words.is_empty() => Ok(Message::End),
         MessageType::End => Err(Fault::Malformed),
-        MessageType::ProposeRunCompletion => Ok(Message::ProposeRunCompletion(
-            ProposeRunCompletion::read(alloc, words)?,
-        )),
-        MessageType::ProposeRunCompletionAck => Ok(Message::ProposeRunCompletionAck(
-            ProposeRunCompletionAck::read(alloc, words)?,
-        )),
-        MessageType::AwaitingOn => Ok(Message::AwaitingOn(AwaitingOn::read(alloc, words)?)),
-        MessageType::GetStateEphemeralCommand => Ok(Message::GetStateEphemeralCommand(
-            GetStateEphemeralCommand::read(alloc, words)?,
-        )),
-        MessageType::GetStateEphemeralNotification => Ok(Message::GetStateEphemeralNotification(
-            GetStateEphemeralNotification::read(alloc, words)?,
-        )),
-        MessageType::InputCommand => Ok(Message::Input(InputCommand::read(alloc, words)?)),
-        MessageType::GetEagerStateCommand => Ok(Message::GetEagerState(GetEagerStateCommand::read(
-            alloc, words,
-        )?)),
-        MessageType::GetLazyStateCommand => Ok(Message::GetLazyState(GetLazyStateCommand::read(
-            alloc, words,
-        )?)),
-        MessageType::GetEagerStateKeysCommand => Ok(Message::GetEagerStateKeys(
-            GetEagerStateKeysCommand::read(alloc, words)?,
-        )),
-        MessageType::GetLazyStateKeysCommand => Ok(Message::GetLazyStateKeys(
-            GetLazyStateKeysCommand::read(alloc, words)?,
-        )),
-        MessageType::SetStateCommand => Ok(Message::SetState(SetStateCommand::read(alloc, words)?)),
-        MessageType::ClearStateCommand => Ok(Message::ClearState(ClearStateCommand::read(
-            alloc, words,
-        )?)),
-        MessageType::ClearAllStateCommand => Ok(Message::ClearAllState(ClearAllStateCommand::read(
-            alloc, words,
-        )?)),
-        MessageType::SleepCommand => Ok(Message::Sleep(SleepCommand::read(alloc, words)?)),
-        MessageType::CallCommand => Ok(Message::Call(CallCommand::read(alloc, words)?)),
-        MessageType::OneWayCallCommand => Ok(Message::OneWayCall(OneWayCallCommand::read(
-            alloc, words,
-        )?)),
-        MessageType::CompleteAwakeableCommand => Ok(Message::CompleteAwakeable(
-            CompleteAwakeableCommand::read(alloc, words)?,
-        )),
-        MessageType::SendSignalCommand => Ok(Message::SendSignal(SendSignalCommand::read(
-            alloc, words,
-        )?)),
-        MessageType::GetPromiseCommand => Ok(Message::GetPromise(PromiseCommand::read(
-            alloc, words,
-        )?)),
-        MessageType::PeekPromiseCommand => Ok(Message::PeekPromise(PromiseCommand::read(
-            alloc, words,
-        )?)),
-        MessageType::CompletePromiseCommand => Ok(Message::CompletePromise(
-            CompletePromiseCommand::read(alloc, words)?,
-        )),
-        MessageType::RunCommand => Ok(Message::Run(RunCommand::read(alloc, words)?)),
-        MessageType::AttachInvocationCommand => Ok(Message::AttachInvocation(
-            InvocationCommand::read(alloc, words)?,
-        )),
-        MessageType::GetInvocationOutputCommand => Ok(Message::GetInvocationOutput(
-            InvocationCommand::read(alloc, words)?,
-        )),
-        MessageType::OutputCommand => Ok(Message::Output(OutputCommand::read(alloc, words)?)),
-        MessageType::Notification => Ok(Message::Notification(Notification::read(alloc, words)?)),
+        MessageType::ProposeRunCompletion => as_message!(
+            Form::read(alloc, words),
+            Message::ProposeRunCompletion
+        ),
+        MessageType::ProposeRunCompletionAck => as_message!(
+            Form::read(alloc, words),
+            Message::ProposeRunCompletionAck
+        ),
+        MessageType::AwaitingOn => as_message!(Form::read(alloc, words), Message::AwaitingOn),
+        MessageType::GetStateEphemeralCommand => as_message!(
+            Form::read(alloc, words),
+            Message::GetStateEphemeralCommand
+        ),
+        MessageType::GetStateEphemeralNotification => as_message!(
+            Form::read(alloc, words),
+            Message::GetStateEphemeralNotification
+        ),
+        MessageType::InputCommand => as_message!(Form::read(alloc, words), Message::Input),
+        MessageType::GetEagerStateCommand => as_message!(
+            Form::read(alloc, words),
+            Message::GetEagerState
+        ),
+        MessageType::GetLazyStateCommand => as_message!(
+            Form::read(alloc, words),
+            Message::GetLazyState
+        ),
+        MessageType::GetEagerStateKeysCommand => as_message!(
+            Form::read(alloc, words),
+            Message::GetEagerStateKeys
+        ),
+        MessageType::GetLazyStateKeysCommand => as_message!(
+            Form::read(alloc, words),
+            Message::GetLazyStateKeys
+        ),
+        MessageType::SetStateCommand => as_message!(Form::read(alloc, words), Message::SetState),
+        MessageType::ClearStateCommand => as_message!(
+            Form::read(alloc, words),
+            Message::ClearState
+        ),
+        MessageType::ClearAllStateCommand => as_message!(
+            Form::read(alloc, words),
+            Message::ClearAllState
+        ),
+        MessageType::SleepCommand => as_message!(Form::read(alloc, words), Message::Sleep),
+        MessageType::CallCommand => as_message!(Form::read(alloc, words), Message::Call),
+        MessageType::OneWayCallCommand => as_message!(
+            Form::read(alloc, words),
+            Message::OneWayCall
+        ),
+        MessageType::CompleteAwakeableCommand => as_message!(
+            Form::read(alloc, words),
+            Message::CompleteAwakeable
+        ),
+        MessageType::SendSignalCommand => as_message!(
+            Form::read(alloc, words),
+            Message::SendSignal
+        ),
+        MessageType::GetPromiseCommand => as_message!(
+            Form::read(alloc, words),
+            Message::GetPromise
+        ),
+        MessageType::PeekPromiseCommand => as_message!(
+            Form::read(alloc, words),
+            Message::PeekPromise
+        ),
+        MessageType::CompletePromiseCommand => as_message!(
+            Form::read(alloc, words),
+            Message::CompletePromise
+        ),
+        MessageType::RunCommand => as_message!(Form::read(alloc, words), Message::Run),
+        MessageType::AttachInvocationCommand => as_message!(
+            Form::read(alloc, words),
+            Message::AttachInvocation
+        ),
+        MessageType::GetInvocationOutputCommand => as_message!(
+            Form::read(alloc, words),
+            Message::GetInvocationOutput
+        ),
+        MessageType::OutputCommand => as_message!(Form::read(alloc, words), Message::Output),
+        MessageType::Notification => as_message!(Form::read(alloc, words), Message::Notification),
     }
 }

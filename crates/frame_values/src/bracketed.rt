@@ -33,7 +33,7 @@ impl Bracketed for Failure {
     fn print(&self, line: &mut Line, is_first: bool) -> Result<bool, AllocError> {
         let is_first = print_field(line, is_first, "code", &self.code)?;
         let is_first = print_field(line, is_first, "message", &self.message)?;
-        Ok(print_field(line, is_first, "metadata", &self.metadata)?)
+        print_field(line, is_first, "metadata", &self.metadata)
     }
 
     fn read(alloc: Global, words: &[&[u8]]) -> Result<Failure, Fault> {
@@ -55,7 +55,7 @@ impl Bracketed for WorkflowId {
     fn print(&self, line: &mut Line, is_first: bool) -> Result<bool, AllocError> {
         let is_first = print_field(line, is_first, "name", &self.name)?;
         let is_first = print_field(line, is_first, "key", &self.key)?;
-        Ok(print_field(line, is_first, "scope", &self.scope)?)
+        print_field(line, is_first, "scope", &self.scope)
     }
 
     fn read(alloc: Global, words: &[&[u8]]) -> Result<WorkflowId, Fault> {
@@ -75,7 +75,7 @@ impl Bracketed for IdempotencyId {
         let is_first = print_field(line, is_first, "service_key", &self.service_key)?;
         let is_first = print_field(line, is_first, "handler_name", &self.handler_name)?;
         let is_first = print_field(line, is_first, "idempotency_key", &self.idempotency_key)?;
-        Ok(print_field(line, is_first, "scope", &self.scope)?)
+        print_field(line, is_first, "scope", &self.scope)
     }
 
     fn read(alloc: Global, words: &[&[u8]]) -> Result<IdempotencyId, Fault> {

@@ -20,7 +20,7 @@ impl Bracketed for FutureNode {
         let is_first = print_field(line, is_first, "kind", &self.kind)?;
         let is_first = print_field(line, is_first, "completions", &self.waiting_completions)?;
         let is_first = print_field(line, is_first, "signals", &self.waiting_signals)?;
-        Ok(print_field(line, is_first, "named", &self.waiting_named_signals)?)
+        print_field(line, is_first, "named", &self.waiting_named_signals)
     }
 
     fn read(alloc: Global, words: &[&[u8]]) -> Result<FutureNode, Fault> {

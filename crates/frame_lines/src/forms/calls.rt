@@ -24,7 +24,7 @@ impl Form for SleepCommand {
             "result_completion_id",
             &self.result_completion_id,
         )?;
-        Ok(print_field(line, is_first, "name", &self.name)?)
+        print_field(line, is_first, "name", &self.name)
     }
 
     fn read(alloc: Global, words: &[&[u8]]) -> Result<SleepCommand, Fault> {
@@ -58,7 +58,7 @@ impl Form for CallRequest {
             "invocation_id_notification_idx",
             &self.invocation_id_notification_idx,
         )?;
-        Ok(print_field(line, is_first, "name", &self.name)?)
+        print_field(line, is_first, "name", &self.name)
     }
 
     fn read(alloc: Global, words: &[&[u8]]) -> Result<CallRequest, Fault> {
@@ -133,12 +133,12 @@ impl Form for CallCommand {
 
     fn print(&self, line: &mut Line, is_first: bool) -> Result<bool, AllocError> {
         let is_first = self.request.print(line, is_first)?;
-        Ok(print_field(
+        print_field(
             line,
             is_first,
             "result_completion_id",
             &self.result_completion_id,
-        )?)
+        )
     }
 
     fn read(alloc: Global, words: &[&[u8]]) -> Result<CallCommand, Fault> {
@@ -226,7 +226,7 @@ impl Form for OneWayCallCommand {
 
     fn print(&self, line: &mut Line, is_first: bool) -> Result<bool, AllocError> {
         let is_first = self.request.print(line, is_first)?;
-        Ok(print_field(line, is_first, "invoke_time", &self.invoke_time)?)
+        print_field(line, is_first, "invoke_time", &self.invoke_time)
     }
 
     fn read(alloc: Global, words: &[&[u8]]) -> Result<OneWayCallCommand, Fault> {
@@ -311,7 +311,7 @@ impl Form for CompleteAwakeableCommand {
 
     fn print(&self, line: &mut Line, is_first: bool) -> Result<bool, AllocError> {
         let is_first = print_field(line, is_first, "awakeable_id", &self.awakeable_id)?;
-        Ok(print_field(line, is_first, "result", &self.result)?)
+        print_field(line, is_first, "result", &self.result)
     }
 
     fn read(alloc: Global, words: &[&[u8]]) -> Result<CompleteAwakeableCommand, Fault> {
@@ -337,7 +337,7 @@ impl Form for SendSignalCommand {
             &self.target_invocation_id,
         )?;
         let is_first = print_field(line, is_first, "signal", &self.signal)?;
-        Ok(print_field(line, is_first, "result", &self.result)?)
+        print_field(line, is_first, "result", &self.result)
     }
 
     fn read(alloc: Global, words: &[&[u8]]) -> Result<SendSignalCommand, Fault> {
@@ -358,12 +358,12 @@ impl Form for PromiseCommand {
 
     fn print(&self, line: &mut Line, is_first: bool) -> Result<bool, AllocError> {
         let is_first = print_field(line, is_first, "key", &self.key)?;
-        Ok(print_field(
+        print_field(
             line,
             is_first,
             "result_completion_id",
             &self.result_completion_id,
-        )?)
+        )
     }
 
     fn read(alloc: Global, words: &[&[u8]]) -> Result<PromiseCommand, Fault> {
@@ -384,12 +384,12 @@ impl Form for CompletePromiseCommand {
     fn print(&self, line: &mut Line, is_first: bool) -> Result<bool, AllocError> {
         let is_first = print_field(line, is_first, "key", &self.key)?;
         let is_first = print_field(line, is_first, "completion", &self.completion)?;
-        Ok(print_field(
+        print_field(
             line,
             is_first,
             "result_completion_id",
             &self.result_completion_id,
-        )?)
+        )
     }
 
     fn read(alloc: Global, words: &[&[u8]]) -> Result<CompletePromiseCommand, Fault> {
@@ -410,12 +410,12 @@ impl Form for RunCommand {
 
     fn print(&self, line: &mut Line, is_first: bool) -> Result<bool, AllocError> {
         let is_first = print_field(line, is_first, "name", &self.name)?;
-        Ok(print_field(
+        print_field(
             line,
             is_first,
             "result_completion_id",
             &self.result_completion_id,
-        )?)
+        )
     }
 
     fn read(alloc: Global, words: &[&[u8]]) -> Result<RunCommand, Fault> {
@@ -435,12 +435,12 @@ impl Form for InvocationCommand {
 
     fn print(&self, line: &mut Line, is_first: bool) -> Result<bool, AllocError> {
         let is_first = print_field(line, is_first, "target", &self.target)?;
-        Ok(print_field(
+        print_field(
             line,
             is_first,
             "result_completion_id",
             &self.result_completion_id,
-        )?)
+        )
     }
 
     fn read(alloc: Global, words: &[&[u8]]) -> Result<InvocationCommand, Fault> {

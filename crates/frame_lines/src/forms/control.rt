@@ -27,7 +27,7 @@ impl Form for Start {
         let is_first = print_field(line, is_first, "random_seed", &self.random_seed)?;
         let is_first = print_field(line, is_first, "scope", &self.scope)?;
         let is_first = print_field(line, is_first, "limit_key", &self.limit_key)?;
-        Ok(print_field(line, is_first, "idempotency_key", &self.idempotency_key)?)
+        print_field(line, is_first, "idempotency_key", &self.idempotency_key)
     }
 
     fn read(alloc: Global, words: &[&[u8]]) -> Result<Start, Fault> {
@@ -120,7 +120,7 @@ impl Form for Suspension {
     ghost fields = { suspension_fields };
 
     fn print(&self, line: &mut Line, is_first: bool) -> Result<bool, AllocError> {
-        Ok(print_field(line, is_first, "future", &self.future)?)
+        print_field(line, is_first, "future", &self.future)
     }
 
     fn read(alloc: Global, words: &[&[u8]]) -> Result<Suspension, Fault> {
@@ -135,12 +135,12 @@ impl Form for AwaitingOn {
 
     fn print(&self, line: &mut Line, is_first: bool) -> Result<bool, AllocError> {
         let is_first = print_field(line, is_first, "future", &self.future)?;
-        Ok(print_field(
+        print_field(
             line,
             is_first,
             "executing_side_effects",
             &self.executing_side_effects,
-        )?)
+        )
     }
 
     fn read(alloc: Global, words: &[&[u8]]) -> Result<AwaitingOn, Fault> {
@@ -166,7 +166,7 @@ impl Form for ErrorMessage {
         let is_first = print_field(line, is_first, "index", &self.index)?;
         let is_first = print_field(line, is_first, "type", &self.ty)?;
         let is_first = print_field(line, is_first, "name", &self.name)?;
-        Ok(print_field(line, is_first, "delay", &self.delay)?)
+        print_field(line, is_first, "delay", &self.delay)
     }
 
     fn read(alloc: Global, words: &[&[u8]]) -> Result<ErrorMessage, Fault> {
@@ -217,7 +217,7 @@ impl Form for ProposeRunCompletion {
 
     fn print(&self, line: &mut Line, is_first: bool) -> Result<bool, AllocError> {
         let is_first = print_field(line, is_first, "id", &self.id)?;
-        Ok(print_field(line, is_first, "result", &self.result)?)
+        print_field(line, is_first, "result", &self.result)
     }
 
     fn read(alloc: Global, words: &[&[u8]]) -> Result<ProposeRunCompletion, Fault> {
@@ -231,7 +231,7 @@ impl Form for ProposeRunCompletionAck {
     ghost fields = { propose_run_completion_ack_fields };
 
     fn print(&self, line: &mut Line, is_first: bool) -> Result<bool, AllocError> {
-        Ok(print_field(line, is_first, "id", &self.id)?)
+        print_field(line, is_first, "id", &self.id)
     }
 
     fn read(alloc: Global, words: &[&[u8]]) -> Result<ProposeRunCompletionAck, Fault> {

@@ -16,7 +16,7 @@ impl Form for GetStateEphemeralCommand {
 
     fn print(&self, line: &mut Line, is_first: bool) -> Result<bool, AllocError> {
         let is_first = print_field(line, is_first, "id", &self.id)?;
-        Ok(print_field(line, is_first, "key", &self.key)?)
+        print_field(line, is_first, "key", &self.key)
     }
 
     fn read(alloc: Global, words: &[&[u8]]) -> Result<GetStateEphemeralCommand, Fault> {
@@ -31,7 +31,7 @@ impl Form for GetStateEphemeralNotification {
 
     fn print(&self, line: &mut Line, is_first: bool) -> Result<bool, AllocError> {
         let is_first = print_field(line, is_first, "id", &self.id)?;
-        Ok(print_field(line, is_first, "result", &self.result)?)
+        print_field(line, is_first, "result", &self.result)
     }
 
     fn read(alloc: Global, words: &[&[u8]]) -> Result<GetStateEphemeralNotification, Fault> {
@@ -48,7 +48,7 @@ impl Form for Notification {
 
     fn print(&self, line: &mut Line, is_first: bool) -> Result<bool, AllocError> {
         let is_first = print_field(line, is_first, "id", &self.id)?;
-        Ok(print_field(line, is_first, "result", &self.result)?)
+        print_field(line, is_first, "result", &self.result)
     }
 
     fn read(alloc: Global, words: &[&[u8]]) -> Result<Notification, Fault> {

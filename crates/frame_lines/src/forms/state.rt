@@ -18,7 +18,7 @@ impl Form for InputCommand {
 
     fn print(&self, line: &mut Line, is_first: bool) -> Result<bool, AllocError> {
         let is_first = print_field(line, is_first, "headers", &self.headers)?;
-        Ok(print_field(line, is_first, "value", &self.value)?)
+        print_field(line, is_first, "value", &self.value)
     }
 
     fn read(alloc: Global, words: &[&[u8]]) -> Result<InputCommand, Fault> {
@@ -36,7 +36,7 @@ impl Form for GetEagerStateCommand {
     fn print(&self, line: &mut Line, is_first: bool) -> Result<bool, AllocError> {
         let is_first = print_field(line, is_first, "name", &self.name)?;
         let is_first = print_field(line, is_first, "key", &self.key)?;
-        Ok(print_field(line, is_first, "result", &self.result)?)
+        print_field(line, is_first, "result", &self.result)
     }
 
     fn read(alloc: Global, words: &[&[u8]]) -> Result<GetEagerStateCommand, Fault> {
@@ -54,12 +54,12 @@ impl Form for GetLazyStateCommand {
     fn print(&self, line: &mut Line, is_first: bool) -> Result<bool, AllocError> {
         let is_first = print_field(line, is_first, "name", &self.name)?;
         let is_first = print_field(line, is_first, "key", &self.key)?;
-        Ok(print_field(
+        print_field(
             line,
             is_first,
             "result_completion_id",
             &self.result_completion_id,
-        )?)
+        )
     }
 
     fn read(alloc: Global, words: &[&[u8]]) -> Result<GetLazyStateCommand, Fault> {
@@ -80,7 +80,7 @@ impl Form for GetEagerStateKeysCommand {
 
     fn print(&self, line: &mut Line, is_first: bool) -> Result<bool, AllocError> {
         let is_first = print_field(line, is_first, "value", &self.value)?;
-        Ok(print_field(line, is_first, "name", &self.name)?)
+        print_field(line, is_first, "name", &self.name)
     }
 
     fn read(alloc: Global, words: &[&[u8]]) -> Result<GetEagerStateKeysCommand, Fault> {
@@ -102,7 +102,7 @@ impl Form for GetLazyStateKeysCommand {
             "result_completion_id",
             &self.result_completion_id,
         )?;
-        Ok(print_field(line, is_first, "name", &self.name)?)
+        print_field(line, is_first, "name", &self.name)
     }
 
     fn read(alloc: Global, words: &[&[u8]]) -> Result<GetLazyStateKeysCommand, Fault> {
@@ -123,7 +123,7 @@ impl Form for SetStateCommand {
     fn print(&self, line: &mut Line, is_first: bool) -> Result<bool, AllocError> {
         let is_first = print_field(line, is_first, "name", &self.name)?;
         let is_first = print_field(line, is_first, "key", &self.key)?;
-        Ok(print_field(line, is_first, "value", &self.value)?)
+        print_field(line, is_first, "value", &self.value)
     }
 
     fn read(alloc: Global, words: &[&[u8]]) -> Result<SetStateCommand, Fault> {
@@ -140,7 +140,7 @@ impl Form for ClearStateCommand {
 
     fn print(&self, line: &mut Line, is_first: bool) -> Result<bool, AllocError> {
         let is_first = print_field(line, is_first, "name", &self.name)?;
-        Ok(print_field(line, is_first, "key", &self.key)?)
+        print_field(line, is_first, "key", &self.key)
     }
 
     fn read(alloc: Global, words: &[&[u8]]) -> Result<ClearStateCommand, Fault> {
@@ -154,7 +154,7 @@ impl Form for ClearAllStateCommand {
     ghost fields = { clear_all_state_fields };
 
     fn print(&self, line: &mut Line, is_first: bool) -> Result<bool, AllocError> {
-        Ok(print_field(line, is_first, "name", &self.name)?)
+        print_field(line, is_first, "name", &self.name)
     }
 
     fn read(alloc: Global, words: &[&[u8]]) -> Result<ClearAllStateCommand, Fault> {
@@ -168,7 +168,7 @@ impl Form for OutputCommand {
     ghost fields = { output_fields };
 
     fn print(&self, line: &mut Line, is_first: bool) -> Result<bool, AllocError> {
-        Ok(print_field(line, is_first, "result", &self.result)?)
+        print_field(line, is_first, "result", &self.result)
     }
 
     fn read(alloc: Global, words: &[&[u8]]) -> Result<OutputCommand, Fault> {

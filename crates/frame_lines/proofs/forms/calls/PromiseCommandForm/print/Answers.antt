@@ -1,4 +1,4 @@
 use Rattle.frame_lines.proofs.forms.calls.PromiseCommandForm.print.Goals as goal
 
 pub returns : goal.returns
-returns c = rw c.in_ok-is_first.ensures c.in_ok-print_field.ensures
+returns c = rw c.in_ok-is_first.ensures c.print_field-2.ensures

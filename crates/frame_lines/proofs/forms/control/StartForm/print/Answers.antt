@@ -1,4 +1,4 @@
 use Rattle.frame_lines.proofs.forms.control.StartForm.print.Goals as goal
 
 pub returns : goal.returns
-returns c = rw (c.in_ok-is_first.ensures, c.in_ok-is_first-2.ensures, c.in_ok-is_first-3.ensures, c.in_ok-is_first-4.ensures, c.in_ok-is_first-5.ensures, c.in_ok-is_first-6.ensures, c.in_ok-is_first-7.ensures, c.in_ok-is_first-8.ensures, c.in_ok-is_first-9.ensures, c.in_ok-is_first-10.ensures, c.in_ok-is_first-11.ensures) c.in_ok-print_field.ensures
+returns c = rw (c.in_ok-is_first.ensures, c.in_ok-is_first-2.ensures, c.in_ok-is_first-3.ensures, c.in_ok-is_first-4.ensures, c.in_ok-is_first-5.ensures, c.in_ok-is_first-6.ensures, c.in_ok-is_first-7.ensures, c.in_ok-is_first-8.ensures, c.in_ok-is_first-9.ensures, c.in_ok-is_first-10.ensures, c.in_ok-is_first-11.ensures) c.print_field-12.ensures
