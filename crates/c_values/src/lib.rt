@@ -1,7 +1,7 @@
 //! The values of the C interface, without text. It says how a call from C ended and what it writes, and takes a box apart into the pointer to
-//! its block and whose block that is. Of a frame it has the kind of its message, its numbers and its parts, and it makes frames that hold
+//! its block and whose block that is. It has the kind of a frame's message, its numbers and its parts, and it makes frames that hold
 //! a value as it is given. It also has results as notifications, whether a suspension is awake, and in which field two commands differ. The
-//! crates above hide the pointer of a session or of a journal in a struct of C's; their proofs by hand stand on the steps that are proved here.
+//! crates above hide the pointer of a session or of a journal in a struct of C's; their proofs by hand depend on the steps that are proved here.
 #![tactic(auto)]
 
 mod future;
