@@ -178,14 +178,18 @@ def unpacked(tools: list[Tool], into: str = NODE_MODULES[1]) -> int:
     """Puts the modules of Debian's packages of these tools into a folder, and returns the status of what failed."""
     names = [package for it in tools for package in it.packages]
     with tempfile.TemporaryDirectory() as room:
-        how = {"stdin": subprocess.DEVNULL, "cwd": room}
-        if status := subprocess.run(["apt-get", "-o", "APT::Sandbox::User=root", "download", "-q", *names], **how).returncode:
+        if status := _ended(["apt-get", "-o", "APT::Sandbox::User=root", "download", "-q", *names], room):
             return status
         for it in sorted(Path(room).glob("*.deb")):
-            if status := subprocess.run(["dpkg-deb", "-x", it.name, "unpacked"], **how).returncode:
+            if status := _ended(["dpkg-deb", "-x", it.name, "unpacked"], room):
                 return status
         shutil.copytree(f"{room}/unpacked{NODE_MODULES[0]}", into, dirs_exist_ok=True)
     return 0
+
+
+def _ended(words: list[str], folder: str) -> int:
+    """Runs a command in a folder, and returns its status."""
+    return subprocess.run(words, stdin=subprocess.DEVNULL, cwd=folder).returncode
 
 
 def _installed(tools: list[Tool]) -> int:

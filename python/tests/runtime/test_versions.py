@@ -4,6 +4,7 @@ import asyncio
 import io
 import contextlib
 import sys
+import time
 import unittest
 from unittest import mock
 
@@ -11,11 +12,12 @@ import support  # isort: skip
 from support import Runtime
 
 from palqytun.runtime import App, Context, Service, TerminalError, VirtualObject, gather, journal
+from palqytun.runtime.adopting import Adopting
 from palqytun.runtime.command import load
 from palqytun.runtime.command import main as palqytun
 from palqytun.runtime.database.plain import Plain
 from palqytun.runtime.context import AttemptEnds
-from palqytun.runtime.replay import PROVES, ReplayOutcome, replay_all, report
+from palqytun.runtime.replay import PROVES, ReplayOutcome, replay_all, report, stored
 
 OLD, NEW, PATCHED, AFTER, OTHER = "old", "new", "patched", "after", "other"
 
@@ -111,6 +113,33 @@ class Versions(support.OnADatabase):
             async with Runtime(made(OLD), self.url, version=OLD) as runtime:
                 self.assertEqual([len(it) for it in await self._go(runtime, id)], [1])
                 self.assertEqual(await runtime.rows("SELECT code, status FROM invocations WHERE id=?", id), [(OLD, "done")])
+
+        self.run_to(go)
+
+    def test_what_was_refused_is_read_once_and_forgotten_once_it_is_done(self):
+        made_by = list[Adopting]()
+
+        def noted(claimer):
+            made_by.append(Adopting(claimer))
+            return made_by[-1]
+
+        async def go():
+            async with Runtime(made(OLD), self.url, version=OLD) as runtime:
+                [id] = await self._begun(runtime)
+            with mock.patch("palqytun.runtime.engine.Adopting", noted), mock.patch("palqytun.runtime.adopting.stored", wraps=stored) as read:
+                async with Runtime(made(NEW), self.url, version=NEW) as runtime:
+                    await self._waits(runtime, id)
+                    [adopting] = made_by
+                    await asyncio.sleep(1)  # its sleep is over, and its journal has been read with its result
+                    read.reset_mock()
+                    await asyncio.sleep(1)
+                    read.assert_not_awaited()
+                    self.assertEqual(set(adopting.before | adopting.refused), {id})
+                    await runtime.engine.transact(lambda db: db.change("UPDATE invocations SET status='done' WHERE id=?", (id,)))
+                    until = time.monotonic() + support.LONG
+                    while adopting.before or adopting.refused:
+                        self.assertLess(time.monotonic(), until)
+                        await asyncio.sleep(0.02)
 
         self.run_to(go)
 

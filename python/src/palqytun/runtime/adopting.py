@@ -27,7 +27,9 @@ class Adopting:
     left: set[str] | None = None
     lived: set[str] = field(default_factory=set)
     after: int = 0  # the place of the last invocation that was looked at
-    refused: dict[str, tuple[int, int]] = field(default_factory=dict)  # the epoch and the entries of those whose journals this code doesn't make
+    # By its id, the epoch and the entries of each whose journal this code doesn't make: as this walk over all found them, and as the last one did.
+    refused: dict[str, tuple[int, int]] = field(default_factory=dict)
+    before: dict[str, tuple[int, int]] = field(default_factory=dict)
 
     async def sought(self, db: Database) -> list[Stored]:
         """Some invocations that have no worker of their version, each with its journal."""
@@ -49,15 +51,18 @@ class Adopting:
             if not self.after:
                 self.left -= set(gone)
             self.after = 0
+            self.before, self.refused = self.refused, {}
             return []
         self.after = rows[-1][-1]
         found = list[Stored]()
         for it in (Claimable(*row[:-1]) for row in rows):
-            if self.refused.get(it.id) != (it.epoch, it.entries):
-                try:
-                    found.append(await stored(db, it))
-                except journal.BrokenRule as broken:
-                    await self._refuse(db, it, f"the stored journal is broken: {broken}")
+            if self.before.get(it.id) == (it.epoch, it.entries):
+                self.refused[it.id] = self.before[it.id]
+                continue
+            try:
+                found.append(await stored(db, it))
+            except journal.BrokenRule as broken:
+                await self._refuse(db, it, f"the stored journal is broken: {broken}")
         return found
 
     def apart(self, it: Stored) -> str | None:
