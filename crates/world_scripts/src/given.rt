@@ -99,10 +99,10 @@ fn identity_in(alloc: Global, words: &[&[u8]]) -> Result<Identity, Fault>
         id,
         debug_id,
         key,
-        random_seed,
         scope,
         limit_key,
         idempotency_key,
+        random_seed,
     })
 }
 
