@@ -1,4 +1,4 @@
-"""How many locals each function of a built library has: its borrows are the dearer to prove, the more it has. Nothing is proved for it."""
+"""How many locals each function of a built library has. The more it has, the longer the proof of its borrows takes. Nothing is proved for it."""
 
 from __future__ import annotations
 
